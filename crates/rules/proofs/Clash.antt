@@ -1,0 +1,3 @@
+-- The clash list, and the search that finds its first clash.
+pub mod Clashes
+pub mod Searching

@@ -1,0 +1,289 @@
+-- The clash list of an action: what is in it, when it is empty, which of its clashes is answered, and what a commit
+-- answers by it. Assumes nothing.
+use Prim.Native.Nat.{ℕ, _≤_, _<_}
+use native.Mathlib.Omega.{arith}
+use mathlib.Core.Path.{_≡_, refl, sym, ap, ap₂, subst, _∙_}
+use mathlib.Core.Logic.{_↔_, _≢_, _⊎_, inl, inr, ⊎-elim}
+use mathlib.Core.Bool.{true, false, _&&_}
+use mathlib.Core.List.{List, [], _∷_, List·Memᴰ, List·Memᴰ·head, List·Memᴰ·tail, List·Memᴰ·not-nil, List·Memᴰ·cases-cons, List·Memᴰ·append-cases, Memᴰ·append-left, Memᴰ·append-right}
+use lib.Dec.{ltb, leb, eqb}
+use borrow.Author.Tests.{ltb-true, ltb-false, leb-true, leb-false, eqb-true, eqb-false}
+use Rattle.rules.specs.declared.Answer.the-variants.{Committed, Failed}
+use Rattle.rules.specs.Range.{keep}
+use Rattle.rules.specs.Card.{accountCount, accounts}
+use Rattle.rules.specs.Table.{started, parentOf, endTime, hasRead, readTime, hasWritten, actions, isRecordOf, records}
+use Rattle.rules.specs.Sound.{IsStarted}
+use Rattle.rules.specs.Clash.{isClash, Pair, pairsWith, clashesWith, clashes, Found, none, at, isBefore, earlier, least, firstClash}
+use Rattle.rules.specs.Event.{Event, isCommit}
+use Rattle.rules.specs.Step.{State, commitTime, judged, commit, step}
+use Rattle.rules.proofs.Laws.Steps.{causeIn, step-commits}
+use Rattle.rules.proofs.Laws.Tests.{and-left, and-right, or-cases, or-neither, test, not-both}
+use Rattle.rules.proofs.Laws.Ranges.{keep-only, keep-every}
+
+-- ---- what is in the list
+
+pub in-records : (w : List ℕ) (p m : ℕ) → List·Memᴰ m (records w p) ↔ (IsStarted w m × (isRecordOf w p m ≡ true))
+unfolding records actions
+in-records w p m = (
+  λ r. let h = keep-only (isRecordOf w p) 1 (started w) m r in (omega arith, h .1),
+  λ h. keep-every (isRecordOf w p) 1 (started w) m (omega arith) (h .1),
+)
+
+pairsWith-only :
+    (m : ℕ) (c : Pair) (ks : List ℕ) → List·Memᴰ c (pairsWith m ks) → (c .holder ≡ m) × List·Memᴰ (c .account) ks
+unfolding pairsWith
+pairsWith-only m c [] p = absurd (List·Memᴰ·not-nil p)
+pairsWith-only m c (k ∷ ks) p =
+    ⊎-elim
+    (λ e. (ap (λ d. d .holder) e, List·Memᴰ·head (ap (λ d. d .account) e)))
+    (λ r. let h = pairsWith-only m c ks r in (h .0, List·Memᴰ·tail (h .1)))
+    (List·Memᴰ·cases-cons p)
+
+pairsWith-every :
+    {m : ℕ} (c : Pair) {ks : List ℕ} → c .holder ≡ m → List·Memᴰ (c .account) ks → List·Memᴰ c (pairsWith m ks)
+unfolding pairsWith
+pairsWith-every c e (List·Memᴰ·head p) = List·Memᴰ·head (λ i. record { holder = e i; account = p i })
+pairsWith-every c e (List·Memᴰ·tail r) = List·Memᴰ·tail (pairsWith-every c e r)
+
+module _ (w : List ℕ) (n : ℕ) where
+  -- the accounts at which n clashes with m
+  abbrev clashing : ℕ → List ℕ
+  clashing m = keep (isClash w n m) accounts
+
+  clashesWith-only :
+      (c : Pair) (ms : List ℕ) → List·Memᴰ c (clashesWith w n ms) →
+      List·Memᴰ (c .holder) ms × List·Memᴰ (c .account) (clashing (c .holder))
+  unfolding clashesWith
+  clashesWith-only c [] p = absurd (List·Memᴰ·not-nil p)
+  clashesWith-only c (m ∷ ms) p =
+      ⊎-elim
+      (λ q. let h = pairsWith-only m c (clashing m) q in (List·Memᴰ·head (h .0), rw (h .0) (h .1)))
+      (λ r. let h = clashesWith-only c ms r in (List·Memᴰ·tail (h .0), h .1))
+      (List·Memᴰ·append-cases (pairsWith m (clashing m)) p)
+
+  clashesWith-every :
+      (c : Pair) {ms : List ℕ} → List·Memᴰ (c .holder) ms → List·Memᴰ (c .account) (clashing (c .holder)) →
+      List·Memᴰ c (clashesWith w n ms)
+  unfolding clashesWith
+  clashesWith-every c (List·Memᴰ·head e) q = Memᴰ·append-left _ (pairsWith-every c e (rw e at q))
+  clashesWith-every c (List·Memᴰ·tail {x = m} r) q = Memᴰ·append-right (pairsWith m (clashing m)) (clashesWith-every c r q)
+
+-- c belongs in n's clash list: "a committed child of the same parent with a non-empty write set, and an account in that
+-- write set which the action has read at a time less than that child's end time"
+pub record IsClashing (w : List ℕ) (n : ℕ) (c : Pair) : Type 0 where
+  pub begun : IsStarted w (c .holder)
+  pub isRecord : isRecordOf w (parentOf w n) (c .holder) ≡ true
+  pub known : c .account < accountCount
+  pub clash : isClash w n (c .holder) (c .account) ≡ true
+
+pub in-clashes : (w : List ℕ) (n : ℕ) (c : Pair) → List·Memᴰ c (clashes w n) ↔ IsClashing w n c
+unfolding clashes accounts
+in-clashes w n c = (only, every)
+  where
+    only : List·Memᴰ c (clashes w n) → IsClashing w n c
+    only p =
+        let both = clashesWith-only w n c (records w (parentOf w n)) p in
+        let holder = in-records w (parentOf w n) (c .holder) .0 (both .0) in
+        let account = keep-only (isClash w n (c .holder)) 0 accountCount (c .account) (both .1) in
+        record { begun = holder .0; isRecord = holder .1; known = omega arith; clash = account .1 }
+
+    every : IsClashing w n c → List·Memᴰ c (clashes w n)
+    every h =
+        clashesWith-every w n c
+        (in-records w (parentOf w n) (c .holder) .1 (h .begun, h .isRecord))
+        (keep-every (isClash w n (c .holder)) 0 accountCount (c .account) (omega arith) (h .clash))
+
+-- ---- when it is empty
+
+empty-of-no-member : (cs : List Pair) → ((c : Pair) → List·Memᴰ c cs → ⊥) → cs ≡ []
+empty-of-no-member [] h = refl
+empty-of-no-member (c ∷ cs) h = absurd (h c (List·Memᴰ·head refl))
+
+clash-was-read : (w : List ℕ) (n m k : ℕ) → isClash w n m k ≡ true → hasRead w n k ≡ true
+clash-was-read w n m k h =
+    and-right (hasWritten w m k) (hasRead w n k)
+    (and-left (hasWritten w m k && hasRead w n k) (ltb (readTime w n k) (endTime w m)) h)
+
+-- "An empty read set never clashes."
+pub unread-never-clashes :
+    (w : List ℕ) (n : ℕ) → ((k : ℕ) → k < accountCount → hasRead w n k ≡ false) → clashes w n ≡ []
+unread-never-clashes w n unread = empty-of-no-member (clashes w n) never
+  where
+    never : (c : Pair) → List·Memᴰ c (clashes w n) → ⊥
+    never c p =
+        let h = in-clashes w n c .0 p in
+        not-both (clash-was-read w n (c .holder) (c .account) (h .clash)) (unread (c .account) (h .known))
+
+-- ---- which of them is first
+
+-- (t, k) comes before (u, l) or is the same: what the test `isBefore` says
+abbrev pub Before : ℕ → ℕ → ℕ → ℕ → Type 0
+Before t k u l = (t < u) ⊎ ((t ≡ u) × (k ≤ l))
+
+isBefore-true : (t k u l : ℕ) → isBefore t k u l ≡ true → Before t k u l
+isBefore-true t k u l h =
+    ⊎-elim
+    (λ p. inl (ltb-true t u p))
+    (λ p. inr (eqb-true t u (and-left (eqb t u) (leb k l) p), leb-true k l (and-right (eqb t u) (leb k l) p)))
+    (or-cases (ltb t u) (eqb t u && leb k l) h)
+
+isBefore-false : (t k u l : ℕ) → isBefore t k u l ≡ false → Before u l t k
+isBefore-false t k u l h =
+    let neither = or-neither (ltb t u) (eqb t u && leb k l) h in
+    ⊎-elim
+    (λ e. inr (omega (arith, eqb-true t u e, leb-false k l (rw e at (neither .1)))))
+    (λ e. inl (omega (arith, ltb-false t u (neither .0), eqb-false t u e)))
+    (test (eqb t u))
+
+before-trans : {t k u l v o : ℕ} → Before t k u l → Before u l v o → Before t k v o
+before-trans (inl p) (inl q) = inl (omega arith)
+before-trans (inl p) (inr q) = inl (omega arith)
+before-trans (inr p) (inl q) = inl (omega arith)
+before-trans (inr p) (inr q) = inr (omega arith)
+
+before-antisym : {t k u l : ℕ} → Before t k u l → Before u l t k → (t ≡ u) × (k ≡ l)
+before-antisym (inl p) (inl q) = absurd (omega arith)
+before-antisym (inl p) (inr q) = absurd (omega arith)
+before-antisym (inr p) (inl q) = absurd (omega arith)
+before-antisym (inr p) (inr q) = omega arith
+
+-- a pair with P has end time t and account k, and it comes before every pair with P
+pub record IsFirstOf (w : List ℕ) (P : Pair → Type 0) (t k : ℕ) : Type 0 where
+  pub holder : ℕ
+  pub listed : P (record { holder = holder; account = k })
+  pub time : endTime w holder ≡ t
+  pub first : (c : Pair) → P c → Before t k (endTime w (c .holder)) (c .account)
+
+-- f names the first of the pairs with P, or says that there is none
+pub data Finds (w : List ℕ) (P : Pair → Type 0) : Found → Type 0 where
+  finds-none : ((c : Pair) → P c → ⊥) → Finds w P none
+  finds-at : {t k : ℕ} → IsFirstOf w P t k → Finds w P (at t k)
+
+module _ {w : List ℕ} {P : Pair → Type 0} where
+  nothing-found : Finds w P none → (c : Pair) → P c → ⊥
+  nothing-found (finds-none h) = h
+
+  first-found : {t k : ℕ} → Finds w P (at t k) → IsFirstOf w P t k
+  first-found (finds-at h) = h
+
+  -- there is at most one first
+  pub finds-once : {f g : Found} → Finds w P f → Finds w P g → f ≡ g
+  finds-once (finds-none p) (finds-none q) = refl
+  finds-once (finds-none p) (finds-at q) = absurd (p _ (q .listed))
+  finds-once (finds-at p) (finds-none q) = absurd (q _ (p .listed))
+  finds-once (finds-at p) (finds-at q) =
+      let same = before-antisym (rw (q .time) at (p .first _ (q .listed))) (rw (p .time) at (q .first _ (p .listed))) in
+      ap₂ at (same .0) (same .1)
+
+  -- the same pairs have the same first
+  pub finds-same : {Q : Pair → Type 0} {f : Found} → ((c : Pair) → P c ↔ Q c) → Finds w P f → Finds w Q f
+  finds-same same (finds-none h) = finds-none (λ c q. h c (same c .1 q))
+  finds-same same (finds-at h) =
+      finds-at
+      (record { holder = h .holder; listed = same _ .0 (h .listed); time = h .time; first = λ c q. h .first c (same c .1 q) })
+
+module _ (w : List ℕ) where
+  head-first :
+      (c : Pair) (cs : List Pair) →
+      ((d : Pair) → List·Memᴰ d cs → Before (endTime w (c .holder)) (c .account) (endTime w (d .holder)) (d .account)) →
+      IsFirstOf w (λ d. List·Memᴰ d (c ∷ cs)) (endTime w (c .holder)) (c .account)
+  head-first c cs before =
+      record {
+        holder = c .holder;
+        listed = List·Memᴰ·head refl;
+        time = refl;
+        first = λ d m.
+            ⊎-elim
+            (λ e. inr (ap (λ x. endTime w (x .holder)) (sym e), omega (arith, ap (λ x. x .account) e)))
+            (before d)
+            (List·Memᴰ·cases-cons m);
+      }
+
+  tail-first :
+      (c : Pair) (cs : List Pair) {t k : ℕ} → IsFirstOf w (λ d. List·Memᴰ d cs) t k →
+      Before t k (endTime w (c .holder)) (c .account) → IsFirstOf w (λ d. List·Memᴰ d (c ∷ cs)) t k
+  tail-first c cs {t} {k} h before =
+      record {
+        holder = h .holder;
+        listed = List·Memᴰ·tail (h .listed);
+        time = h .time;
+        first = λ d m.
+            ⊎-elim
+            (λ e. subst (λ x. Before t k (endTime w (x .holder)) (x .account)) (sym e) before)
+            (h .first d)
+            (List·Memᴰ·cases-cons m);
+      }
+
+  earlier-finds :
+      (c : Pair) (cs : List Pair) {f : Found} → Finds w (λ d. List·Memᴰ d cs) f →
+      Finds w (λ d. List·Memᴰ d (c ∷ cs)) (earlier (endTime w (c .holder)) (c .account) f)
+  earlier-finds c cs (finds-none empty) = finds-at (head-first c cs (λ d m. absurd (empty d m)))
+  earlier-finds c cs (finds-at {t = u} {k = l} h) =
+      ⊎-elim
+      (λ e. rw e (finds-at (head-first c cs (λ d m. before-trans (isBefore-true _ _ u l e) (h .first d m)))))
+      (λ e. rw e (finds-at (tail-first c cs h (isBefore-false _ _ u l e))))
+      (test (isBefore (endTime w (c .holder)) (c .account) u l))
+
+  least-finds : (cs : List Pair) → Finds w (λ d. List·Memᴰ d cs) (least w cs)
+  unfolding least
+  least-finds [] = finds-none (λ d m. List·Memᴰ·not-nil m)
+  least-finds (c ∷ cs) = earlier-finds c cs (least-finds cs)
+
+-- t and k are the end time and the account of the first pair of n's clash list
+abbrev pub IsFirst : List ℕ → ℕ → ℕ → ℕ → Type 0
+IsFirst w n t k = IsFirstOf w (λ c. List·Memᴰ c (clashes w n)) t k
+
+module _ (w : List ℕ) (n : ℕ) where
+  pub firstClash-finds : Finds w (λ c. List·Memᴰ c (clashes w n)) (firstClash w n)
+  unfolding firstClash
+  firstClash-finds = least-finds w (clashes w n)
+
+  pub firstClash-at : (t k : ℕ) → (firstClash w n ≡ at t k) ↔ IsFirst w n t k
+  firstClash-at t k = (λ e. first-found (rw e at firstClash-finds), λ h. finds-once firstClash-finds (finds-at h))
+
+  pub firstClash-none : (firstClash w n ≡ none) ↔ (clashes w n ≡ [])
+  unfolding firstClash least
+  firstClash-none = (λ e. empty-of-no-member (clashes w n) (nothing-found (rw e at firstClash-finds)), λ e. rw e)
+
+-- ---- what a commit answers
+
+module _ (s : State) (n : ℕ) where
+  -- "No clash: it commits."
+  pub no-clash-commits : clashes (s .table) n ≡ [] → commit s n .answer ≡ Committed (commitTime (s .table) n)
+  unfolding commit judged
+  no-clash-commits e = rw (firstClash-none (s .table) n .1 e)
+
+  -- "With a clash .. Answer: failed, the end time and account of the clash with the smallest end time and, within that,
+  -- the smallest account."
+  first-clash-fails : (t k : ℕ) → firstClash (s .table) n ≡ at t k → commit s n .answer ≡ Failed t k
+  unfolding commit judged
+  first-clash-fails t k e = rw e
+
+  pub clash-fails :
+      clashes (s .table) n ≢ [] →
+      (t : ℕ) × (k : ℕ) × (firstClash (s .table) n ≡ at t k) × (commit s n .answer ≡ Failed t k)
+  clash-fails some = go (firstClash (s .table) n) refl
+    where
+      go :
+          (f : Found) → firstClash (s .table) n ≡ f →
+          (t : ℕ) × (k : ℕ) × (firstClash (s .table) n ≡ at t k) × (commit s n .answer ≡ Failed t k)
+      go none e = absurd (some (firstClash-none (s .table) n .0 e))
+      go (at t k) e = (t, k, e, first-clash-fails t k e)
+
+  pub committed-no-clash : (t : ℕ) → commit s n .answer ≡ Committed t → clashes (s .table) n ≡ []
+  committed-no-clash t said = go (firstClash (s .table) n) refl
+    where
+      go : (f : Found) → firstClash (s .table) n ≡ f → clashes (s .table) n ≡ []
+      go none e = firstClash-none (s .table) n .0 e
+      -- the answer would be both Failed and Committed
+      go (at u k) e = let failed = first-clash-fails u k e in cc
+
+-- a commit that isn't refused answers committed exactly when the clash list is empty
+pub committed-exactly :
+    (s : State) (e : Event) → causeIn s e ≡ 0 → isCommit e ≡ true →
+    ((t : ℕ) × (step s e .answer ≡ Committed t)) ↔ (clashes (s .table) (e .number) ≡ [])
+committed-exactly s e allowed is =
+    let same = step-commits s e allowed is in (
+      λ h. committed-no-clash s (e .number) (h .0) (ap (λ o. o .answer) (sym same) ∙ h .1),
+      λ h. (commitTime (s .table) (e .number), ap (λ o. o .answer) same ∙ no-clash-commits s (e .number) h),
+    )

@@ -1,0 +1,236 @@
+-- The search of specs/Search.antt, record by record and account by account, finds the clash that a commit answers.
+-- Assumes nothing.
+use Prim.Native.Nat.{ℕ, zero, suc, _+_, _≤_, _<_}
+use native.Mathlib.Omega.{arith}
+use native.Mathlib.Decide.{ℕ-discrete}
+use mathlib.Core.Path.{_≡_, refl, sym, ap, _∙_}
+use mathlib.Core.Logic.{_↔_, _≢_, _⊎_, inl, inr, ⊎-elim, ⊎-map}
+use mathlib.Core.Bool.{true, false, cond}
+use mathlib.Core.List.{List, [], _∷_, List·Memᴰ, List·Memᴰ·head, List·Memᴰ·tail, List·Memᴰ·not-nil, List·Memᴰ·cases-cons}
+use lib.Dec.{ltb}
+use borrow.Author.Tests.{ltb-true, ltb-false, eqb-true, eq-eqb, ne-eqb}
+use Rattle.rules.specs.Range.{upFrom}
+use Rattle.rules.specs.Card.{accountCount, accounts}
+use Rattle.rules.specs.Table.{hasEnd, mostActions, started, counter, parentOf, endTime, isCommitted, actions, isChildOf, isRecordOf, records}
+use Rattle.rules.specs.Sound.{IsStarted, Sound}
+use Rattle.rules.specs.Clash.{isClash, Pair, Found, firstClash}
+use Rattle.rules.specs.Search.{nextAfter, searchAccounts, searchRecords, search}
+use Rattle.rules.proofs.Laws.Tests.{and-left, and-right, test, not-both}
+use Rattle.rules.proofs.Laws.Ranges.{Within, count-at-most}
+use Rattle.rules.proofs.Clash.Clashes.{in-records, IsClashing, in-clashes, IsFirstOf, Finds, finds-none, finds-at, finds-once, finds-same, firstClash-finds}
+
+-- ---- the next record
+
+-- of the actions ms, m has the smallest end time above t
+record IsNext (w : List ℕ) (t : ℕ) (ms : List ℕ) (m : ℕ) : Type 0 where
+  member : List·Memᴰ m ms
+  above : t < endTime w m
+  soonest : (x : ℕ) → List·Memᴰ x ms → t < endTime w x → endTime w m ≤ endTime w x
+
+-- m is 0, and none of the actions ms has an end time above t
+abbrev NoneAfter : List ℕ → ℕ → List ℕ → ℕ → Type 0
+NoneAfter w t ms m = (m ≡ 0) × ((x : ℕ) → List·Memᴰ x ms → endTime w x ≤ t)
+
+module _ (w : List ℕ) (t : ℕ) where
+  head-next :
+      (m : ℕ) (ms : List ℕ) → t < endTime w m →
+      ((x : ℕ) → List·Memᴰ x ms → t < endTime w x → endTime w m ≤ endTime w x) → IsNext w t (m ∷ ms) m
+  head-next m ms above soonest =
+      record {
+        member = List·Memᴰ·head refl;
+        above = above;
+        soonest = λ x r later.
+            ⊎-elim (λ e. omega (arith, ap (endTime w) e)) (λ q. soonest x q later) (List·Memᴰ·cases-cons r);
+      }
+
+  tail-next :
+      (m : ℕ) (ms : List ℕ) {next : ℕ} → IsNext w t ms next → (t < endTime w m → endTime w next ≤ endTime w m) →
+      IsNext w t (m ∷ ms) next
+  tail-next m ms is sooner =
+      record {
+        member = List·Memᴰ·tail (is .member);
+        above = is .above;
+        soonest = λ x r later.
+            ⊎-elim (λ e. rw e (sooner (rw e at later))) (λ q. is .soonest x q later) (List·Memᴰ·cases-cons r);
+      }
+
+  sooner-next :
+      (m : ℕ) (ms : List ℕ) {next : ℕ} → t < endTime w m → IsNext w t ms next →
+      IsNext w t (m ∷ ms) (cond (ltb (endTime w m) (endTime w next)) m next)
+  sooner-next m ms {next} above is =
+      ⊎-elim
+      (λ e. rw e (head-next m ms above (λ x r later. omega (arith, ltb-true, is .soonest x r later))))
+      (λ e. rw e (tail-next m ms is (λ h. omega (arith, ltb-false))))
+      (test (ltb (endTime w m) (endTime w next)))
+
+  -- 0 says that there is none, so it must not be one of the actions
+  nextAfter-finds :
+      (ms : List ℕ) → ((x : ℕ) → List·Memᴰ x ms → 1 ≤ x) →
+      NoneAfter w t ms (nextAfter w t ms) ⊎ IsNext w t ms (nextAfter w t ms)
+  unfolding nextAfter
+  nextAfter-finds [] positive = inl (refl, λ x r. absurd (List·Memᴰ·not-nil r))
+  nextAfter-finds (m ∷ ms) positive =
+      go (test (ltb t (endTime w m))) (nextAfter-finds ms (λ x r. positive x (List·Memᴰ·tail r)))
+    where
+      next : ℕ
+      next = nextAfter w t ms
+
+      go :
+          (ltb t (endTime w m) ≡ true) ⊎ (ltb t (endTime w m) ≡ false) → NoneAfter w t ms next ⊎ IsNext w t ms next →
+          NoneAfter w t (m ∷ ms) (nextAfter w t (m ∷ ms)) ⊎ IsNext w t (m ∷ ms) (nextAfter w t (m ∷ ms))
+      go (inl e) (inl empty) =
+          rw (e, eq-eqb next 0 (empty .0))
+          (inr (head-next m ms (ltb-true _ _ e) (λ x r later. absurd (omega (arith, empty .1 x r)))))
+      go (inl e) (inr is) =
+          rw (e, ne-eqb next 0 (λ z. omega (arith, positive next (List·Memᴰ·tail (is .member)))))
+          (inr (sooner-next m ms (ltb-true _ _ e) is))
+      go (inr e) (inl empty) =
+          rw e
+          (inl (
+            empty .0,
+            λ x r. ⊎-elim (λ q. omega (arith, ltb-false, ap (endTime w) q)) (empty .1 x) (List·Memᴰ·cases-cons r),
+          ))
+      go (inr e) (inr is) = rw e (inr (tail-next m ms is (λ h. absurd (omega (arith, ltb-false)))))
+
+-- ---- the accounts of one record
+
+module _ (w : List ℕ) (n m : ℕ) where
+  -- c is a clash with m, at one of the j accounts from a on
+  abbrev ClashWith : ℕ → ℕ → Pair → Type 0
+  ClashWith a j c = (c .holder ≡ m) × Within a j (c .account) × (isClash w n m (c .account) ≡ true)
+
+  -- with no clash at a, those from a on are those behind a
+  clash-behind : (a j : ℕ) → isClash w n m a ≡ false → (c : Pair) → ClashWith (suc a) j c ↔ ClashWith a (suc j) c
+  clash-behind a j e c = (λ h. (h .0, omega arith, h .2), behind)
+    where
+      behind : ClashWith a (suc j) c → ClashWith (suc a) j c
+      behind h =
+          let other : c .account ≢ a = λ z. not-both (h .2) (rw z e) in
+          (h .0, omega arith, h .2)
+
+  -- Q stands for the clashes with the records after m
+  module _ {Q : Pair → Type 0} (later : (c : Pair) → Q c → endTime w m < endTime w (c .holder)) where
+    clash-here-first : (a j : ℕ) → isClash w n m a ≡ true → IsFirstOf w (λ c. ClashWith a (suc j) c ⊎ Q c) (endTime w m) a
+    clash-here-first a j e =
+        record {
+          holder = m;
+          listed = inl (refl, omega arith, e);
+          time = refl;
+          first = λ c. ⊎-elim (λ r. inr (ap (endTime w) (sym (r .0)), omega arith)) (λ q. inl (later c q));
+        }
+
+    -- where `rest` finds the first of those with Q, the search finds the first of those with m and of those with Q
+    searchAccounts-finds :
+        {rest : Found} → Finds w Q rest → (a j : ℕ) →
+        Finds w (λ c. ClashWith a j c ⊎ Q c) (searchAccounts w n m rest (upFrom a j))
+    unfolding searchAccounts upFrom
+    searchAccounts-finds found a zero = finds-same (λ c. (inr, ⊎-elim (λ r. absurd (omega arith)) (λ q. q))) found
+    searchAccounts-finds found a (suc j) =
+        ⊎-elim
+        (λ e. rw e (finds-at (clash-here-first a j e)))
+        (λ e. rw e (finds-same (behind e) (searchAccounts-finds found (suc a) j)))
+        (test (isClash w n m a))
+      where
+        behind : isClash w n m a ≡ false → (c : Pair) → (ClashWith (suc a) j c ⊎ Q c) ↔ (ClashWith a (suc j) c ⊎ Q c)
+        behind e c = (⊎-map (clash-behind a j e c .0) (λ q. q), ⊎-map (clash-behind a j e c .1) (λ q. q))
+
+-- ---- the records by rising end time
+
+record-parent : (w : List ℕ) (p m : ℕ) → isRecordOf w p m ≡ true → parentOf w m ≡ p
+unfolding isRecordOf
+record-parent w p m h =
+    eqb-true (parentOf w m) p (and-left (isChildOf w p m) (hasEnd w m) h)
+
+record-has-end : (w : List ℕ) (p m : ℕ) → isRecordOf w p m ≡ true → hasEnd w m ≡ true
+unfolding isRecordOf
+record-has-end w p m h = and-right (isChildOf w p m) (hasEnd w m) h
+
+counter-at-most : (w : List ℕ) → Sound w → counter w ≤ mostActions
+unfolding actions
+counter-at-most w s = omega (arith, s .counted, count-at-most (isCommitted w) 1 (started w), s .few)
+
+-- c is a clash of n, with an end time above t
+abbrev ClashAfter : List ℕ → ℕ → ℕ → Pair → Type 0
+ClashAfter w n t c = IsClashing w n c × (t < endTime w (c .holder))
+
+clash-record : (w : List ℕ) (n : ℕ) (c : Pair) → IsClashing w n c → List·Memᴰ (c .holder) (records w (parentOf w n))
+clash-record w n c h = in-records w (parentOf w n) (c .holder) .1 (h .begun, h .isRecord)
+
+module _ (w : List ℕ) (n : ℕ) (s : Sound w) where
+  clash-ends : (c : Pair) → IsClashing w n c → (1 ≤ endTime w (c .holder)) × (endTime w (c .holder) ≤ counter w)
+  clash-ends c h = s .ends (c .holder) (h .begun) (record-has-end w (parentOf w n) (c .holder) (h .isRecord))
+
+  -- two records with one end time are the same
+  one-record : (p m x : ℕ) → List·Memᴰ m (records w p) → List·Memᴰ x (records w p) → endTime w x ≡ endTime w m → x ≡ m
+  one-record p m x a b e =
+      let hm = in-records w p m .0 a in
+      let hx = in-records w p x .0 b in
+      s .alone m x (hm .0) (hx .0) (record-has-end w p m (hm .1)) (record-has-end w p x (hx .1))
+      (record-parent w p x (hx .1) ∙ sym (record-parent w p m (hm .1)))
+      e
+
+  -- the clashes after t are those with the next record, and those after it
+  after-next :
+      (t m : ℕ) → IsNext w t (records w (parentOf w n)) m → (c : Pair) →
+      (ClashWith w n m 0 accountCount c ⊎ ClashAfter w n (endTime w m) c) ↔ ClashAfter w n t c
+  after-next t m is c = (⊎-elim with-next after, λ h. split h (ℕ-discrete (endTime w (c .holder)) (endTime w m)))
+    where
+      next : IsStarted w m × (isRecordOf w (parentOf w n) m ≡ true)
+      next = in-records w (parentOf w n) m .0 (is .member)
+
+      with-next : ClashWith w n m 0 accountCount c → ClashAfter w n t c
+      with-next h = (
+        record { begun = rw (h .0) (next .0); isRecord = rw (h .0) (next .1); known = omega arith; clash = rw (h .0) (h .2) },
+        rw (h .0) (is .above),
+      )
+
+      after : ClashAfter w n (endTime w m) c → ClashAfter w n t c
+      after h = (h .0, omega (arith, is .above))
+
+      split :
+          ClashAfter w n t c → Dec (endTime w (c .holder) ≡ endTime w m) →
+          ClashWith w n m 0 accountCount c ⊎ ClashAfter w n (endTime w m) c
+      split h (yes e) =
+          let same = one-record (parentOf w n) m (c .holder) (is .member) (clash-record w n c (h .0)) e in
+          inl (same, omega arith, rw same at (h .0 .clash))
+      split h (no ne) = inr (h .0, omega (arith, is .soonest (c .holder) (clash-record w n c (h .0)) (h .1)))
+
+  -- end times rise from one record to the next and stay within the counter, so `left` rounds are enough
+  searchRecords-finds : (left t : ℕ) → counter w ≤ t + left → Finds w (ClashAfter w n t) (searchRecords w n left t)
+  unfolding searchRecords accounts
+  searchRecords-finds zero t enough = finds-none (λ c h. omega (arith, clash-ends c (h .0)))
+  searchRecords-finds (suc left) t enough =
+      ⊎-elim
+      none-left
+      (λ is. next-first is (searchRecords-finds left (endTime w m) (omega (arith, is .above))))
+      (nextAfter-finds w t (records w (parentOf w n)) positive)
+    where
+      m : ℕ
+      m = nextAfter w t (records w (parentOf w n))
+
+      positive : (x : ℕ) → List·Memᴰ x (records w (parentOf w n)) → 1 ≤ x
+      positive x r = in-records w (parentOf w n) x .0 r .0 .0
+
+      none-left : NoneAfter w t (records w (parentOf w n)) m → Finds w (ClashAfter w n t) (searchRecords w n (suc left) t)
+      none-left empty =
+          rw (eq-eqb m 0 (empty .0))
+          (finds-none (λ c h. omega (arith, empty .1 (c .holder) (clash-record w n c (h .0)))))
+
+      next-first :
+          IsNext w t (records w (parentOf w n)) m →
+          Finds w (ClashAfter w n (endTime w m)) (searchRecords w n left (endTime w m)) →
+          Finds w (ClashAfter w n t) (searchRecords w n (suc left) t)
+      next-first is rest =
+          rw (ne-eqb m 0 (λ z. omega (arith, positive m (is .member))))
+          (finds-same (after-next t m is) (searchAccounts-finds w n m (λ c h. h .1) rest 0 accountCount))
+
+-- "In the search both the records and the accounts are left at the first clash, records taken by rising end time."
+pub search-finds : (w : List ℕ) (n : ℕ) → Sound w → search w n ≡ firstClash w n
+unfolding search
+search-finds w n s =
+    finds-once
+    (finds-same every-clash-after-0 (searchRecords-finds w n s mostActions 0 (omega (arith, counter-at-most w s))))
+    (finds-same (in-clashes w n) (firstClash-finds w n))
+  where
+    every-clash-after-0 : (c : Pair) → ClashAfter w n 0 c ↔ IsClashing w n c
+    every-clash-after-0 c = (λ h. h .0, λ h. (h, clash-ends w n s c h .0))

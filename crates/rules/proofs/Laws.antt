@@ -1,0 +1,9 @@
+-- Laws of the definitions, which everything else stands on.
+pub mod Tests
+pub mod Ranges
+pub mod Words
+pub mod Sets
+pub mod Cards
+pub mod Causes
+pub mod Steps
+pub mod Walking

@@ -1,0 +1,229 @@
+-- What is asked of each number of a run, as facts about the numbers from a on, below a + n. Assumes nothing.
+use Prim.Native.Nat.{ℕ, zero, suc, _+_, _≤_, _<_}
+use native.Mathlib.Nat.{zero-add, add-suc, suc-add, add-zero}
+use native.Mathlib.Omega.{arith}
+use native.Mathlib.Decide.{ℕ-discrete}
+use mathlib.Core.Path.{_≡_, refl, sym, ap, ap₂, _∙_}
+use mathlib.Core.Logic.{_⊎_, inl, inr, ⊎-elim, _≢_}
+use mathlib.Core.Bool.{Bool, true, false, cond, _||_, false≢true}
+use mathlib.Core.List.{List, [], _∷_, _++_, List·Memᴰ, List·Memᴰ·head, List·Memᴰ·tail, List·Memᴰ·not-nil, List·Memᴰ·cases-cons}
+use Rattle.rules.specs.Range.{upFrom, any, all, count, keep, each}
+use Rattle.rules.proofs.Laws.Tests.{and-left, and-right, and-both, or-cases, or-inl, or-inr, or-neither, cond-holds}
+
+-- x is one of the n numbers from a on
+abbrev pub Within : ℕ → ℕ → ℕ → Type 0
+Within a n x = (a ≤ x) × (x < a + n)
+
+-- one of them is the first, or one of the rest
+first-or-rest : (a n x : ℕ) → Within a (suc n) x → (x ≡ a) ⊎ Within (suc a) n x
+first-or-rest a n x h = go (ℕ-discrete x a)
+  where
+    go : Dec (x ≡ a) → (x ≡ a) ⊎ Within (suc a) n x
+    go (yes e) = inl e
+    go (no ne) = inr (omega (arith, add-suc a n, suc-add a n))
+
+first-within : (a n : ℕ) → Within a (suc n) a
+first-within a n = omega (arith, add-suc a n)
+
+rest-within : (a n x : ℕ) → Within (suc a) n x → Within a (suc n) x
+rest-within a n x h = omega (arith, add-suc a n, suc-add a n)
+
+-- ---- any: f holds of one at least
+
+pub any-at : (f : ℕ → Bool) (a n x : ℕ) → Within a n x → f x ≡ true → any f (upFrom a n) ≡ true
+unfolding any upFrom
+any-at f a zero x h p = absurd (omega (arith, add-zero a))
+any-at f a (suc n) x h p =
+    ⊎-elim (λ e. or-inl _ (rw e at p)) (λ r. or-inr (f a) (any-at f (suc a) n x r p)) (first-or-rest a n x h)
+
+pub not-any-at : (f : ℕ → Bool) (a n x : ℕ) → any f (upFrom a n) ≡ false → Within a n x → f x ≡ false
+unfolding any upFrom
+not-any-at f a zero x q h = absurd (omega (arith, add-zero a))
+not-any-at f a (suc n) x q h =
+    let none = or-neither (f a) (any f (upFrom (suc a) n)) q in
+    ⊎-elim (λ e. rw e (none .0)) (λ r. not-any-at f (suc a) n x (none .1) r) (first-or-rest a n x h)
+
+pub not-any : (f : ℕ → Bool) (a n : ℕ) → ((x : ℕ) → Within a n x → f x ≡ false) → any f (upFrom a n) ≡ false
+unfolding any upFrom
+not-any f a zero h = refl
+not-any f a (suc n) h =
+    rw (h a (first-within a n)) (not-any f (suc a) n (λ x r. h x (rest-within a n x r)))
+
+-- where f holds of one of them, this one is at hand
+pub any-found : (f : ℕ → Bool) (a n : ℕ) → any f (upFrom a n) ≡ true → (x : ℕ) × Within a n x × (f x ≡ true)
+unfolding any upFrom
+any-found f a zero p = absurd (false≢true p)
+any-found f a (suc n) p =
+    ⊎-elim
+    (λ e. (a, first-within a n, e))
+    (λ r. let found = any-found f (suc a) n r in (found .0, rest-within a n (found .0) (found .1), found .2))
+    (or-cases (f a) (any f (upFrom (suc a) n)) p)
+
+-- ---- all: f holds of each
+
+pub all-at : (f : ℕ → Bool) (a n x : ℕ) → all f (upFrom a n) ≡ true → Within a n x → f x ≡ true
+unfolding all upFrom
+all-at f a zero x p h = absurd (omega (arith, add-zero a))
+all-at f a (suc n) x p h =
+    ⊎-elim
+    (λ e. rw e (and-left (f a) (all f (upFrom (suc a) n)) p))
+    (λ r. all-at f (suc a) n x (and-right (f a) (all f (upFrom (suc a) n)) p) r)
+    (first-or-rest a n x h)
+
+pub all-of : (f : ℕ → Bool) (a n : ℕ) → ((x : ℕ) → Within a n x → f x ≡ true) → all f (upFrom a n) ≡ true
+unfolding all upFrom
+all-of f a zero h = refl
+all-of f a (suc n) h =
+    and-both (h a (first-within a n)) (all-of f (suc a) n (λ x r. h x (rest-within a n x r)))
+
+-- ---- two tests that agree on each of them
+
+pub any-agree : (f g : ℕ → Bool) (a n : ℕ) → ((x : ℕ) → Within a n x → f x ≡ g x) → any f (upFrom a n) ≡ any g (upFrom a n)
+unfolding any upFrom
+any-agree f g a zero h = refl
+any-agree f g a (suc n) h =
+    ap₂ _||_ (h a (first-within a n)) (any-agree f g (suc a) n (λ x r. h x (rest-within a n x r)))
+
+pub count-agree : (f g : ℕ → Bool) (a n : ℕ) → ((x : ℕ) → Within a n x → f x ≡ g x) → count f (upFrom a n) ≡ count g (upFrom a n)
+unfolding count upFrom
+count-agree f g a zero h = refl
+count-agree f g a (suc n) h =
+    rw (h a (first-within a n), count-agree f g (suc a) n (λ x r. h x (rest-within a n x r)))
+
+pub keep-agree : (f g : ℕ → Bool) (a n : ℕ) → ((x : ℕ) → Within a n x → f x ≡ g x) → keep f (upFrom a n) ≡ keep g (upFrom a n)
+unfolding keep upFrom
+keep-agree f g a zero h = refl
+keep-agree f g a (suc n) h =
+    rw (h a (first-within a n), keep-agree f g (suc a) n (λ x r. h x (rest-within a n x r)))
+
+-- ---- keep: those of which f holds
+
+-- y is kept before l, or it is not
+module _ {x : ℕ} (y : ℕ) (l : List ℕ) where
+  in-chosen : (b : Bool) → List·Memᴰ x (cond b (y ∷ l) l) → ((x ≡ y) × (b ≡ true)) ⊎ List·Memᴰ x l
+  in-chosen true m = ⊎-elim (λ e. inl (e, refl)) inr (List·Memᴰ·cases-cons m)
+  in-chosen false m = inr m
+
+  rest-chosen : (b : Bool) → List·Memᴰ x l → List·Memᴰ x (cond b (y ∷ l) l)
+  rest-chosen true m = List·Memᴰ·tail m
+  rest-chosen false m = m
+
+pub keep-only : (f : ℕ → Bool) (a n x : ℕ) → List·Memᴰ x (keep f (upFrom a n)) → Within a n x × (f x ≡ true)
+unfolding keep upFrom
+keep-only f a zero x m = absurd (List·Memᴰ·not-nil m)
+keep-only f a (suc n) x m =
+    ⊎-elim
+    (λ h. (omega arith, rw (h .0) (h .1)))
+    (λ r. let h = keep-only f (suc a) n x r in (omega arith, h .1))
+    (in-chosen a (keep f (upFrom (suc a) n)) (f a) m)
+
+pub keep-every : (f : ℕ → Bool) (a n x : ℕ) → Within a n x → f x ≡ true → List·Memᴰ x (keep f (upFrom a n))
+unfolding keep upFrom
+keep-every f a zero x h p = absurd (omega arith)
+keep-every f a (suc n) x h p = go (ℕ-discrete x a) (λ r. keep-every f (suc a) n x r p)
+  where
+    go : Dec (x ≡ a) → (Within (suc a) n x → List·Memᴰ x (keep f (upFrom (suc a) n))) → List·Memᴰ x (keep f (upFrom a (suc n)))
+    go (yes e) rest = rw (rw e at p) (List·Memᴰ·head e)
+    go (no ne) rest = rest-chosen a (keep f (upFrom (suc a) n)) (f a) (rest (omega arith))
+
+-- ---- counts
+
+-- there are no more of them than numbers in the run
+pub count-at-most : (f : ℕ → Bool) (a n : ℕ) → count f (upFrom a n) ≤ n
+unfolding count upFrom
+count-at-most f a zero = omega arith
+count-at-most f a (suc n) = one-more (f a) (count-at-most f (suc a) n)
+  where
+    one-more : (b : Bool) {m : ℕ} → m ≤ n → cond b (suc m) m ≤ suc n
+    one-more true h = omega arith
+    one-more false h = omega arith
+
+-- f and g differ at x alone, where g holds and f doesn't: g counts one more
+pub count-one-more :
+    (f g : ℕ → Bool) (a n x : ℕ) → Within a n x → f x ≡ false → g x ≡ true → ((y : ℕ) → Within a n y → y ≢ x → f y ≡ g y) →
+    count g (upFrom a n) ≡ suc (count f (upFrom a n))
+unfolding count upFrom
+count-one-more f g a zero x h p q e = absurd (omega (arith, add-zero a))
+count-one-more f g a (suc n) x h p q e =
+    ⊎-elim
+    (λ s.
+    rw (rw s at p, rw s at q)
+    (ap suc (sym (count-agree f g (suc a) n (λ y r. e y (rest-within a n y r) (λ z. omega (arith, r .0)))))))
+    (λ r.
+    rw (sym (e a (first-within a n) (λ z. omega (arith, r .0))))
+    (rw (count-one-more f g (suc a) n x r p q (λ y s. e y (rest-within a n y s))) (cond-suc (f a) _)))
+    (first-or-rest a n x h)
+  where
+    cond-suc : (b : Bool) (m : ℕ) → cond b (suc (suc m)) (suc m) ≡ suc (cond b (suc m) m)
+    cond-suc true m = refl
+    cond-suc false m = refl
+
+-- where f holds of one at least, the count is at least 1
+pub count-some : (f : ℕ → Bool) (l : List ℕ) → any f l ≡ true → 1 ≤ count f l
+unfolding any count
+count-some f [] p = absurd (false≢true p)
+count-some f (x ∷ xs) p =
+    cond-holds (λ c. 1 ≤ c) (f x)
+    (λ q. omega arith)
+    (λ q. count-some f xs (rw q at p))
+
+-- one number more at the end of the run
+pub upFrom-snoc : (a n : ℕ) → upFrom a (suc n) ≡ upFrom a n ++ ((a + n) ∷ [])
+unfolding upFrom
+upFrom-snoc a zero = rw add-zero
+upFrom-snoc a (suc n) = ap (λ l. a ∷ l) (rw (upFrom-snoc (suc a) n, add-suc a n, ← suc-add a n))
+
+pub count-snoc : (f : ℕ → Bool) (a n : ℕ) → count f (upFrom a (suc n)) ≡ count f (upFrom a n) + count f ((a + n) ∷ [])
+unfolding count upFrom
+count-snoc f a zero = rw (add-zero, zero-add)
+count-snoc f a (suc n) =
+    rw (count-snoc f (suc a) n, add-suc a n, ← suc-add a n) (cond-add (f a) _ _)
+  where
+    cond-add : (b : Bool) (m k : ℕ) → cond b (suc (m + k)) (m + k) ≡ cond b (suc m) m + k
+    cond-add true m k = sym (suc-add m k)
+    cond-add false m k = refl
+
+-- ---- each: a change made once for each of them
+
+-- what every change keeps, all of them keep
+pub each-keeps :
+    {A : Type 0} (P : A → Type 0) (f : ℕ → A → A) (a n : ℕ) → ((x : ℕ) → Within a n x → (s : A) → P s → P (f x s)) →
+    (s : A) → P s → P (each f (upFrom a n) s)
+unfolding each upFrom
+each-keeps P f a zero h s p = p
+each-keeps P f a (suc n) h s p =
+    each-keeps P f (suc a) n (λ x r. h x (rest-within a n x r)) (f a s) (h a (first-within a n) s p)
+
+-- What the change for k makes of a cell stands there after all of them, where no other change touches that cell. P is
+-- what the changes need and keep.
+pub each-changes :
+    {A B : Type 0} (P : A → Type 0) (cell : A → B) (g : B → B) (f : ℕ → A → A) (a n k : ℕ) →
+    ((x : ℕ) → Within a n x → (s : A) → P s → P (f x s)) → ((s : A) → P s → cell (f k s) ≡ g (cell s)) →
+    ((x : ℕ) → Within a n x → x ≢ k → (s : A) → P s → cell (f x s) ≡ cell s) → Within a n k →
+    (s : A) → P s → cell (each f (upFrom a n) s) ≡ g (cell s)
+unfolding each upFrom
+each-changes P cell g f a zero k keeps changes other h s p = absurd (omega arith)
+each-changes {A} P cell g f a (suc n) k keeps changes other h s p =
+    by-place (ℕ-discrete k a)
+    (each-changes P cell g f (suc a) n k (λ x r. keeps x (omega arith)) changes (λ x r. other x (omega arith)))
+  where
+    first : Within a (suc n) a
+    first = omega arith
+
+    by-place : Dec (k ≡ a) →
+        (Within (suc a) n k → (t : A) → P t → cell (each f (upFrom (suc a) n) t) ≡ g (cell t)) →
+        cell (each f (upFrom (suc a) n) (f a s)) ≡ g (cell s)
+    by-place (yes e) rest =
+        each-keeps (λ t. P t × (cell t ≡ g (cell s))) f (suc a) n
+        (λ x r t q. (keeps x (omega arith) t (q .0), other x (omega arith) (λ z. omega arith) t (q .0) ∙ q .1))
+        (f a s) (keeps a first s p, rw e at (changes s p)) .1
+    by-place (no ne) rest = rest (omega arith) (f a s) (keeps a first s p) ∙ ap g (other a first (λ z. ne (sym z)) s p)
+
+-- What the change for k puts into a cell stands there after all of them, where no other change touches that cell.
+pub each-puts :
+    {A B : Type 0} (P : A → Type 0) (cell : A → B) (v : B) (f : ℕ → A → A) (a n k : ℕ) →
+    ((x : ℕ) → Within a n x → (s : A) → P s → P (f x s)) → ((s : A) → P s → cell (f k s) ≡ v) →
+    ((x : ℕ) → Within a n x → x ≢ k → (s : A) → cell (f x s) ≡ cell s) → Within a n k →
+    (s : A) → P s → cell (each f (upFrom a n) s) ≡ v
+each-puts P cell v f a n k keeps puts other =
+    each-changes P cell (λ _. v) f a n k keeps puts (λ x h ne s _. other x h ne s)

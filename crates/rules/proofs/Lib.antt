@@ -1,0 +1,6 @@
+-- What is proved of the rules.
+pub mod Laws
+pub mod Sound
+pub mod Clash
+pub mod Stores
+pub mod Cases

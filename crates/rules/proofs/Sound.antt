@@ -1,0 +1,10 @@
+-- Every event keeps every sound table sound: what a change must show, then event by event.
+pub mod Soundness
+pub mod Changes
+pub mod Starting
+pub mod Reading
+pub mod Writing
+pub mod Committing
+pub mod Judging
+pub mod Aborting
+pub mod Kept

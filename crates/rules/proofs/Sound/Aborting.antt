@@ -1,0 +1,181 @@
+-- An abort's table: the live actions at or below the one aborted become aborted and nothing else changes, so the table stays
+-- sound; and the answer counts them. Assumes nothing.
+use Prim.Native.Nat.{ℕ, _≤_, _<_}
+use native.Mathlib.Nat.{le-of-eq}
+use native.Mathlib.Omega.{arith}
+use mathlib.Core.Path.{_≡_, refl, sym, ap, ap₂, _∙_}
+use mathlib.Core.Logic.{inl, _≢_}
+use mathlib.Core.Bool.{Bool, true, false, not, cond, _&&_, _||_}
+use mathlib.Core.List.{List}
+use borrow.Author.Tests.{eqb-true, not-true}
+use lib.Dec.{eqb}
+use lib.ListN.{length}
+use Rattle.rules.specs.declared.Answer.the-variants.{Aborted}
+use Rattle.rules.specs.Range.{count}
+use Rattle.rules.specs.Card.{accountCount}
+use Rattle.rules.specs.Table.{hasEnd, width, tableLength, live, committed, aborted, word, started, counter, parentOf, stateOf, withState, readField, readEntry, hasRead, readTime, writeField, isLive, isCommitted, actions}
+use Rattle.rules.specs.Walk.{isAtOrBelow}
+use Rattle.rules.specs.Sound.{hasState, IsStarted, Sound}
+use Rattle.rules.specs.Step.{State, isAbortedBy, abortTable, abort}
+use Rattle.rules.proofs.Laws.Tests.{and-left, and-right, and-both, not-both, cond-holds}
+use Rattle.rules.proofs.Laws.Ranges.{count-some, any-at, count-agree, each-keeps, each-puts}
+use Rattle.rules.proofs.Laws.Words.{withWord-length, word-same, word-other-row, word-off-field}
+use Rattle.rules.proofs.Sound.Changes.{Change, writes-agree}
+use Rattle.rules.proofs.Laws.Walking.{atOrBelow-itself, notBelow-parent}
+
+-- ---- the table after an abort of n
+
+-- action m was live in the table w and is aborted in the table v
+abbrev pub becameAborted : List ℕ → List ℕ → ℕ → Bool
+becameAborted w v m = isLive w m && eqb (stateOf v m) aborted
+
+module _ (w : List ℕ) (n : ℕ) where
+  -- what the abort does for action m
+  mark : ℕ → List ℕ → List ℕ
+  mark m now = cond (isAbortedBy w n m) (withState now m aborted) now
+
+  mark-keeps :
+      (P : List ℕ → Type 0) (m : ℕ) (v : List ℕ) → (isAbortedBy w n m ≡ true → P v → P (withState v m aborted)) → P v → P (mark m v)
+  unfolding mark
+  mark-keeps P m v keeps p = cond-holds P (isAbortedBy w n m) (λ q. keeps q p) (λ q. p)
+
+  -- what each mark keeps, the abort keeps
+  abort-keeps :
+      (P : List ℕ → Type 0) → ((m : ℕ) → IsStarted w m → isAbortedBy w n m ≡ true → (v : List ℕ) → P v → P (withState v m aborted)) →
+      P w → P (abortTable w n)
+  unfolding abortTable actions mark
+  abort-keeps P keeps =
+      each-keeps P mark 1 (started w) (λ m h v. mark-keeps P m v (λ q. keeps m (omega arith) q v)) w
+
+  pub abort-length : length (abortTable w n) ≡ length w
+  abort-length = abort-keeps (λ v. length v ≡ length w) (λ m h q v e. withWord-length v m _ _ ∙ e) refl
+
+  -- every field but the states
+  pub abort-keeps-field : (m g : ℕ) → g < width → g ≢ 1 → word (abortTable w n) m g ≡ word w m g
+  abort-keeps-field m g hg ne =
+      abort-keeps (λ v. word v m g ≡ word w m g) (λ x h q v e. word-off-field v x m 1 g _ (omega arith) hg ne ∙ e) refl
+
+  -- every row that is not reached: the head's, those above the last start, and those of the other actions
+  pub abort-keeps-row :
+      (m g : ℕ) → g < width → (IsStarted w m → isAbortedBy w n m ≡ true → ⊥) → word (abortTable w n) m g ≡ word w m g
+  abort-keeps-row m g hg unreached =
+      abort-keeps (λ v. word v m g ≡ word w m g)
+      (λ x h q v e. word-other-row v x m 1 g _ (omega arith) hg (λ same. unreached (rw same h) (rw same q)) ∙ e)
+      refl
+
+  module _ (s : Sound w) where
+    -- m's own mark makes it so, and no other mark touches its row
+    reached-aborted : (m : ℕ) → IsStarted w m → isAbortedBy w n m ≡ true → stateOf (abortTable w n) m ≡ aborted
+    unfolding abortTable actions mark
+    reached-aborted m h q =
+        each-puts (λ v. length v ≡ tableLength) (λ v. stateOf v m) aborted mark 1 (started w) m
+        (λ x r v. mark-keeps (λ u. length u ≡ tableLength) x v (λ _ e. withWord-length v x _ _ ∙ e))
+        (λ v e. rw q (word-same v m 1 _ e (omega arith) (omega arith)))
+        (λ x r ne v.
+        mark-keeps (λ u. stateOf u m ≡ stateOf v m) x v
+        (λ _ e. word-other-row v x m 1 1 _ (omega arith) (omega arith) (λ same. ne (sym same))) refl)
+        (omega arith) w (s .long)
+
+    pub abort-state : (m : ℕ) → IsStarted w m → stateOf (abortTable w n) m ≡ cond (isAbortedBy w n m) aborted (stateOf w m)
+    abort-state m h =
+        cond-holds (λ x. stateOf (abortTable w n) m ≡ x) (isAbortedBy w n m)
+        (reached-aborted m h)
+        (λ q. abort-keeps-row m 1 (omega arith) (λ _ r. not-both r q))
+
+    -- an action is live afterwards where it was and is not at or below n
+    pub abort-live : (m : ℕ) → IsStarted w m → isLive (abortTable w n) m ≡ (isLive w m && not (isAtOrBelow w n m))
+    abort-live m h = rw (abort-state m h) (left (isLive w m) (isAtOrBelow w n m) refl)
+      where
+        left : (l b : Bool) → isLive w m ≡ l → eqb (cond (l && b) aborted (stateOf w m)) live ≡ (l && not b)
+        left true true e = refl
+        left true false e = e
+        left false b e = e
+
+    -- ---- it keeps the table sound
+
+    started-kept : started (abortTable w n) ≡ started w
+    started-kept = abort-keeps-field 0 0 (omega arith) (λ z. omega arith)
+
+    counter-kept : counter (abortTable w n) ≡ counter w
+    counter-kept = abort-keeps-row 0 1 (omega arith) (λ h _. omega arith)
+
+    state-valid : (m : ℕ) → IsStarted w m → hasState (abortTable w n) m ≡ true
+    state-valid m h =
+        rw (abort-state m h)
+        (cond-holds (λ x. (eqb x live || eqb x committed || eqb x aborted) ≡ true) (isAbortedBy w n m) (λ q. refl) (λ q. s .states m h))
+
+    was-live : (m : ℕ) → IsStarted w m → isLive (abortTable w n) m ≡ true → isLive w m ≡ true
+    was-live m h l = and-left (isLive w m) _ (sym (abort-live m h) ∙ l)
+
+    -- a live action that is left has its parent left: were the parent at or below n, the action would be too
+    parent-left :
+        (m : ℕ) → IsStarted w m → isLive (abortTable w n) m ≡ true → isLive w (parentOf w m) ≡ true → 1 ≤ parentOf w m →
+        isLive (abortTable w n) (parentOf w m) ≡ true
+    parent-left m h l p one =
+        let out = not-true (isAtOrBelow w n m) (and-right (isLive w m) _ (sym (abort-live m h) ∙ l)) in
+        let below = s .below m h in
+        rw (abort-live (parentOf w m) (omega arith)) (and-both p (ap not (notBelow-parent w s n m h out)))
+
+    -- what becomes aborted was live, not committed
+    committed-kept : (m : ℕ) → IsStarted w m → isCommitted (abortTable w n) m ≡ isCommitted w m
+    committed-kept m h =
+        rw (abort-state m h)
+        (cond-holds (λ x. eqb x committed ≡ isCommitted w m) (isAbortedBy w n m)
+        (λ q. rw (eqb-true (stateOf w m) live (and-left (isLive w m) _ q)))
+        (λ q. refl))
+
+    count-kept : count (isCommitted (abortTable w n)) (actions (abortTable w n)) ≡ count (isCommitted w) (actions w)
+    unfolding actions
+    count-kept = rw started-kept (count-agree _ _ 1 (started w) (λ m r. committed-kept m (omega arith)))
+
+    end-kept : (m : ℕ) → IsStarted w m → hasEnd (abortTable w n) m ≡ hasEnd w m
+    end-kept m h =
+        ap₂ _&&_ (committed-kept m h)
+        (writes-agree w _ m (λ k hk. abort-keeps-field m (writeField k) (omega arith) (λ z. omega arith)))
+
+    reads-kept :
+        (m k : ℕ) → IsStarted w m → isLive (abortTable w n) m ≡ true → k < accountCount → hasRead (abortTable w n) m k ≡ true →
+        readTime (abortTable w n) m k ≤ counter (abortTable w n)
+    reads-kept m k h l hk r =
+        let entry : readEntry (abortTable w n) m k ≡ readEntry w m k = abort-keeps-field m (readField k) (omega arith) (λ z. omega arith) in
+        rw (entry, counter-kept) (s .reads m k h (was-live m h l) hk (rw entry at r))
+
+    pub abort-change : Change w (abortTable w n) n
+    abort-change =
+        record {
+          long = abort-length ∙ s .long;
+          sameStarted = started-kept;
+          rising = le-of-eq (sym counter-kept);
+          counted = rw (counter-kept, count-kept) (s .counted);
+          states = state-valid;
+          parents = λ m h. abort-keeps-field m 0 (omega arith) (λ z. omega arith);
+          wasLive = was-live;
+          parentStays = parent-left;
+          reads = reads-kept;
+          ends = λ m h e. inl (sym (end-kept m h) ∙ e, abort-keeps-field m 2 (omega arith) (λ z. omega arith));
+        }
+
+    -- ---- "Answer: aborted, how many became so."
+
+    -- n is one of them
+    pub abort-counts-itself : IsStarted w n → isLive w n ≡ true → 1 ≤ count (isAbortedBy w n) (actions w)
+    unfolding actions
+    abort-counts-itself h l =
+        count-some (isAbortedBy w n) _
+        (any-at (isAbortedBy w n) 1 (started w) n (omega arith) (and-both l (atOrBelow-itself w s n h)))
+
+    reached-became-aborted : (m : ℕ) → IsStarted w m → isAbortedBy w n m ≡ becameAborted w (abortTable w n) m
+    reached-became-aborted m h = rw (abort-state m h) (reached (isLive w m) (isAtOrBelow w n m) refl)
+      where
+        reached : (l b : Bool) → isLive w m ≡ l → (l && b) ≡ (l && eqb (cond (l && b) aborted (stateOf w m)) aborted)
+        reached true true e = refl
+        reached true false e = rw (eqb-true (stateOf w m) live e)
+        reached false b e = refl
+
+-- the answer's number is that of the actions which were live and are aborted afterwards
+pub abort-counts :
+    (s : State) (n : ℕ) → Sound (s .table) →
+    (abort s n) .answer ≡ Aborted (count (becameAborted (s .table) ((abort s n) .after .table)) (actions (s .table)))
+unfolding abort actions
+abort-counts s n sound =
+    ap Aborted (count-agree _ _ 1 (started (s .table)) (λ m r. reached-became-aborted (s .table) n sound m (omega arith)))

@@ -1,0 +1,251 @@
+-- A commit that is not refused, passed or failed, keeps a sound table sound. Assumes nothing.
+use Prim.Native.Nat.{ℕ, suc, _-_, _≤_, _<_}
+use native.Mathlib.Omega.{arith}
+use native.Mathlib.Decide.{ℕ-discrete}
+use native.Mathlib.Nat.{le-of-eq}
+use mathlib.Core.Path.{_≡_, refl, sym, ap, _∙_}
+use mathlib.Core.Logic.{_⊎_, inl, inr, ⊎-elim, _≢_}
+use mathlib.Core.Bool.{true, false, not}
+use mathlib.Core.List.{List}
+use borrow.Author.Tests.{eqb-true, eqb-false, eq-eqb, ne-eqb, not-true}
+use lib.Dec.{eqb}
+use Rattle.rules.specs.Range.{count}
+use Rattle.rules.specs.Card.{accountCount}
+use Rattle.rules.specs.Table.{hasEnd, width, mostActions, live, committed, aborted, word, started, counter, parentOf, stateOf, withState, endTime, readField, readEntry, hasRead, readTime, writeField, hasWrites, isLive, isCommitted, isLiveChildOf, hasLiveChild, actions}
+use Rattle.rules.specs.Sound.{hasState, IsStarted, Sound}
+use Rattle.rules.specs.Step.{commitTime, commitCounter, joinedRead, commitTable}
+use Rattle.rules.proofs.Laws.Tests.{and-left, and-right, and-both, not-both, test, false-of-not-true}
+use Rattle.rules.proofs.Laws.Ranges.{not-any-at, count-agree, count-one-more}
+use Rattle.rules.proofs.Laws.Words.{withWord-length, word-same, word-other-row, word-off-field}
+use Rattle.rules.proofs.Sound.Changes.{Change, Ended, writes-agree, live-uncommitted}
+use Rattle.rules.proofs.Sound.Committing.{commit-length, commit-started, commit-parent, commit-keeps-row, commit-keeps-sets, commit-counter, commit-state, commit-end, commit-read}
+
+-- an action that may be judged: it is live and has no live child
+pub record Judged (w : List ℕ) (n : ℕ) : Type 0 where
+  pub own : IsStarted w n
+  pub alive : isLive w n ≡ true
+  pub childless : hasLiveChild w n ≡ false
+
+no-live-child : (w : List ℕ) (n : ℕ) → hasLiveChild w n ≡ false → (m : ℕ) → IsStarted w m → isLive w m ≡ true → parentOf w m ≡ n → ⊥
+unfolding hasLiveChild actions
+no-live-child w n none m h l e =
+    not-both (and-both (eq-eqb _ _ e) l) (not-any-at (isLiveChildOf w n) 1 (started w) m none (omega arith))
+
+-- ---- one action finishes: what its state alone gives of a change
+
+module _ (w v : List ℕ) (n : ℕ) (j : Judged w n)
+    (finished : (stateOf v n ≡ committed) ⊎ (stateOf v n ≡ aborted))
+    (others : (m : ℕ) → 1 ≤ m → m ≢ n → stateOf v m ≡ stateOf w m) where
+  finished-not-live : isLive v n ≡ true → ⊥
+  finished-not-live l =
+      ⊎-elim (λ c. omega (arith, eqb-true (stateOf v n) live l)) (λ a. omega (arith, eqb-true (stateOf v n) live l)) finished
+
+  pub still-live-other : (m : ℕ) → isLive v m ≡ true → m ≢ n
+  still-live-other m l e = finished-not-live (rw e at l)
+
+  pub was-live : (m : ℕ) → IsStarted w m → isLive v m ≡ true → isLive w m ≡ true
+  was-live m h l = rw (others m (h .0) (still-live-other m l)) at l
+
+  pub parent-stays :
+      (m : ℕ) → IsStarted w m → isLive v m ≡ true → isLive w (parentOf w m) ≡ true → 1 ≤ parentOf w m → isLive v (parentOf w m) ≡ true
+  parent-stays m h l q pos =
+      rw (others (parentOf w m) pos (no-live-child w n (j .childless) m h (was-live m h l))) q
+
+  pub has-state : Sound w → (m : ℕ) → IsStarted w m → hasState v m ≡ true
+  has-state s m h = go (ℕ-discrete m n)
+    where
+      of-n : hasState v n ≡ true
+      of-n = ⊎-elim (λ c. rw c refl) (λ a. rw a refl) finished
+
+      go : Dec (m ≡ n) → hasState v m ≡ true
+      go (yes e) = rw e of-n
+      go (no ne) = rw (others m (h .0) ne) (s .states m h)
+
+-- ---- a failed commit: the action becomes aborted, and nothing else changes
+
+module _ (w : List ℕ) (s : Sound w) (n : ℕ) (j : Judged w n) where
+  abbrev failed : List ℕ
+  failed = withState w n aborted
+
+  fail-others : (m : ℕ) → 1 ≤ m → m ≢ n → stateOf failed m ≡ stateOf w m
+  fail-others m pos ne = word-other-row w n m 1 1 aborted (omega arith) (omega arith) ne
+
+  fail-state : stateOf failed n ≡ aborted
+  fail-state = word-same w n 1 aborted (s .long) (omega (arith, j .own, s .few)) (omega arith)
+
+  fail-keeps-field : (m g : ℕ) → g < width → g ≢ 1 → word failed m g ≡ word w m g
+  fail-keeps-field m g h ne = word-off-field w n m 1 g aborted (omega arith) h ne
+
+  fail-head : (g : ℕ) → g < width → word failed 0 g ≡ word w 0 g
+  fail-head g h = word-other-row w n 0 1 g aborted (omega arith) h (λ z. omega (arith, j .own))
+
+  -- it was live, so it was not committed; now it is aborted
+  fail-committed : (m : ℕ) → 1 ≤ m → isCommitted failed m ≡ isCommitted w m
+  fail-committed m pos = go (ℕ-discrete m n)
+    where
+      go : Dec (m ≡ n) → isCommitted failed m ≡ isCommitted w m
+      go (yes e) = rw e (rw fail-state (sym (false-of-not-true _ (live-uncommitted w n (j .alive)))))
+      go (no ne) = ap (λ x. eqb x committed) (fail-others m pos ne)
+
+  fail-end : (m : ℕ) → IsStarted w m → hasEnd failed m ≡ true → hasEnd w m ≡ true
+  fail-end m h e =
+      let did = rw (fail-committed m (h .0)) at (and-left (isCommitted failed m) (hasWrites failed m) e) in
+      let other : m ≢ n = λ z. live-uncommitted w n (j .alive) (rw z at did) in
+      and-both did
+      (sym (writes-agree w failed m (λ k hk. word-other-row w n m 1 (writeField k) aborted (omega arith) (omega arith) other))
+      ∙ and-right (isCommitted failed m) (hasWrites failed m) e)
+
+  fail-reads :
+      (m k : ℕ) → IsStarted w m → isLive failed m ≡ true → k < accountCount → hasRead failed m k ≡ true → readTime failed m k ≤ counter failed
+  fail-reads m k h l hk r =
+      let entry : readEntry failed m k ≡ readEntry w m k = fail-keeps-field m (readField k) (omega arith) (λ z. omega arith) in
+      rw (entry, fail-head 1 (omega arith))
+      (s .reads m k h (was-live w failed n j (inr fail-state) fail-others m h l) hk (rw entry at r))
+
+  pub fail-change : Change w (withState w n aborted) n
+  unfolding actions
+  fail-change =
+      record {
+        long = withWord-length w n 1 aborted ∙ s .long;
+        sameStarted = fail-head 0 (omega arith);
+        rising = le-of-eq (sym (fail-head 1 (omega arith)));
+        counted =
+            rw (
+              fail-head 1 (omega arith),
+              fail-head 0 (omega arith),
+              count-agree (isCommitted failed) (isCommitted w) 1 (started w) (λ m h. fail-committed m (h .0)),
+            )
+            (s .counted);
+        states = has-state w failed n j (inr fail-state) fail-others s;
+        parents = λ m h. fail-keeps-field m 0 (omega arith) (λ z. omega arith);
+        wasLive = was-live w failed n j (inr fail-state) fail-others;
+        parentStays = parent-stays w failed n j (inr fail-state) fail-others;
+        reads = fail-reads;
+        ends = λ m h e. inl (fail-end m h e, fail-keeps-field m 2 (omega arith) (λ z. omega arith));
+      }
+
+-- ---- a commit that passes
+
+-- the smaller time stays, so a bound on both is one on the joined time
+joined-bound : (a b c : ℕ) → (a ≢ 0 → a - 1 ≤ c) → (b ≢ 0 → b - 1 ≤ c) → joinedRead a b - 1 ≤ c
+joined-bound a b c f g = go (ℕ-discrete a 0) (ℕ-discrete b 0)
+  where
+    go : Dec (a ≡ 0) → Dec (b ≡ 0) → joinedRead a b - 1 ≤ c
+    go (yes x) (yes y) = rw (x, y) (omega arith)
+    go (yes x) (no y) = rw x (g y)
+    go (no x) (yes y) = rw (ne-eqb a 0 x, y) (f x)
+    go (no x) (no y) = rw (ne-eqb a 0 x, ne-eqb b 0 y) (omega (arith, f x, g y))
+
+module _ (w : List ℕ) (s : Sound w) (n : ℕ) (j : Judged w n) where
+  abbrev parent : ℕ
+  parent = parentOf w n
+
+  abbrev passed : List ℕ
+  passed = commitTable w n parent
+
+  n-few : n ≤ mostActions
+  n-few = omega (arith, j .own, s .few)
+
+  parent-below : parent < n
+  parent-below = s .below n (j .own)
+
+  -- a parent that is an action is a live one
+  parent-live : 1 ≤ parent → isLive w parent ≡ true
+  parent-live pos = ⊎-elim (λ z. absurd (omega arith)) (λ l. l) (s .alive n (j .own) (j .alive))
+
+  pass-state : stateOf passed n ≡ committed
+  pass-state = commit-state w n parent (j .own .0) (s .long) n-few
+
+  pass-others : (m : ℕ) → 1 ≤ m → m ≢ n → stateOf passed m ≡ stateOf w m
+  pass-others m pos ne = commit-keeps-row w n parent (j .own .0) m 1 (omega arith) pos ne (inr (omega arith))
+
+  pass-counter : counter passed ≡ commitCounter w n
+  pass-counter = commit-counter w n parent (j .own .0) (s .long) n-few
+
+  -- the counter goes up by one at the most
+  counter-step : (counter w ≤ commitCounter w n) × (commitCounter w n ≤ suc (counter w))
+  unfolding commitCounter
+  counter-step =
+      ⊎-elim (λ y. rw y (omega arith)) (λ x. rw x (omega arith)) (test (hasWrites w n))
+
+  one-more-committed : count (isCommitted passed) (actions passed) ≡ suc (count (isCommitted w) (actions w))
+  unfolding actions
+  one-more-committed =
+      rw (commit-started w n parent (j .own .0))
+      (count-one-more (isCommitted w) (isCommitted passed) 1 (started w) n (omega (arith, j .own))
+      (false-of-not-true _ (live-uncommitted w n (j .alive)))
+      (eq-eqb _ _ pass-state)
+      (λ m h ne. ap (λ x. eqb x committed) (sym (pass-others m (h .0) ne))))
+
+  -- the write set of the action that commits is as it was, so its end time is what the commit made it
+  own-end : hasEnd passed n ≡ true → Ended w passed n n
+  unfolding commitTime commitCounter
+  own-end e = inr (refl, own-time ∙ rw wrote refl ∙ sym pass-counter, rw (pass-counter, wrote) (omega arith))
+    where
+      own-time : endTime passed n ≡ commitTime w n
+      own-time = commit-end w n parent (j .own .0) (s .long) n-few
+
+      wrote : hasWrites w n ≡ true
+      wrote =
+          sym (writes-agree w passed n (λ k hk. commit-keeps-sets w n parent (j .own .0) (λ z. omega (arith, parent-below)) (writeField k) (omega arith) (omega arith)))
+          ∙ and-right (isCommitted passed n) (hasWrites passed n) e
+
+  -- another action that has an end keeps its row: it is committed, and the parent is live
+  other-end : (m : ℕ) → IsStarted w m → m ≢ n → hasEnd passed m ≡ true → Ended w passed n m
+  other-end m h ne e =
+      let did : isCommitted w m ≡ true = rw (pass-others m (h .0) ne) at (and-left (isCommitted passed m) (hasWrites passed m) e) in
+      let apart : m ≢ parent = λ z. live-uncommitted w m (rw z (parent-live (rw z at (h .0)))) did in
+      inl (
+        and-both did
+            (sym (writes-agree w passed m (λ k hk. commit-keeps-row w n parent (j .own .0) m (writeField k) (omega arith) (h .0) ne (inl apart)))
+            ∙ and-right (isCommitted passed m) (hasWrites passed m) e),
+        commit-keeps-row w n parent (j .own .0) m 2 (omega arith) (h .0) ne (inr (omega arith)),
+      )
+
+  pass-end : (m : ℕ) → IsStarted w m → hasEnd passed m ≡ true → Ended w passed n m
+  pass-end m h e = go (ℕ-discrete m n)
+    where
+      go : Dec (m ≡ n) → Ended w passed n m
+      go (yes z) = rw z (own-end (rw z at e))
+      go (no ne) = other-end m h ne e
+
+  old-time : (m k : ℕ) → IsStarted w m → isLive w m ≡ true → k < accountCount → readEntry w m k ≢ 0 → readEntry w m k - 1 ≤ counter passed
+  old-time m k h l hk ne =
+      rw pass-counter (omega (arith, s .reads m k h l hk (ap not (ne-eqb _ _ ne)), counter-step .0))
+
+  pass-reads :
+      (m k : ℕ) → IsStarted w m → isLive passed m ≡ true → k < accountCount → hasRead passed m k ≡ true → readTime passed m k ≤ counter passed
+  pass-reads m k h l hk r = go (ℕ-discrete m parent)
+    where
+      other : m ≢ n
+      other = still-live-other w passed n j (inl pass-state) pass-others m l
+
+      was : isLive w m ≡ true
+      was = was-live w passed n j (inl pass-state) pass-others m h l
+
+      go : Dec (m ≡ parent) → readTime passed m k ≤ counter passed
+      go (yes z) =
+          let pos : 1 ≤ parent = rw z at (h .0) in
+          rw (z, commit-read w n parent (j .own .0) (s .long) n-few pos (omega (arith, parent-below, n-few)) k hk)
+          (joined-bound (readEntry w n k) (readEntry w parent k) (counter passed)
+          (old-time n k (j .own) (j .alive) hk)
+          (old-time parent k (pos, omega (arith, parent-below, j .own)) (parent-live pos) hk))
+      go (no ne) =
+          let entry : readEntry passed m k ≡ readEntry w m k =
+          commit-keeps-row w n parent (j .own .0) m (readField k) (omega arith) (h .0) other (inl ne) in
+          rw entry (old-time m k h was hk (eqb-false _ _ (not-true _ (rw entry at r))))
+
+  pub commit-change : Change w (commitTable w n (parentOf w n)) n
+  commit-change =
+      record {
+        long = commit-length w n parent (j .own .0) ∙ s .long;
+        sameStarted = commit-started w n parent (j .own .0);
+        rising = rw pass-counter (counter-step .0);
+        counted = rw (pass-counter, one-more-committed) (omega (arith, counter-step .1, s .counted));
+        states = has-state w passed n j (inl pass-state) pass-others s;
+        parents = λ m h. commit-parent w n parent (j .own .0) m;
+        wasLive = was-live w passed n j (inl pass-state) pass-others;
+        parentStays = parent-stays w passed n j (inl pass-state) pass-others;
+        reads = pass-reads;
+        ends = pass-end;
+      }

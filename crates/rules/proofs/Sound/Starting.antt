@@ -1,0 +1,217 @@
+-- A start's table: the next row is filled whole and the last start goes up by one; the table stays sound. Assumes nothing.
+use Prim.Native.Nat.{ℕ, _+_, _≤_, _<_}
+use native.Mathlib.Omega.{arith}
+use native.Mathlib.Decide.{ℕ-discrete}
+use native.Mathlib.Numerals.{add-one}
+use mathlib.Core.Path.{_≡_, refl, sym, ap, _∙_}
+use mathlib.Core.Logic.{_⊎_, inl, inr, ⊎-elim, _≢_}
+use mathlib.Core.Bool.{true}
+use mathlib.Core.List.{List}
+use borrow.Author.Tests.{eq-eqb}
+use lib.Dec.{eqb}
+use lib.ListN.{length}
+use Rattle.rules.specs.Range.{count}
+use Rattle.rules.specs.Card.{accountCount}
+use Rattle.rules.specs.Table.{hasEnd, width, tableLength, mostActions, live, committed, word, started, withStarted, counter, parentOf, withParent, stateOf, withState, endTime, withEndTime, readField, readEntry, writeField, writeEntry, hasRead, readTime, isLive, isCommitted, actions}
+use Rattle.rules.specs.Sound.{IsStarted, Sound}
+use Rattle.rules.specs.Step.{startTable}
+use Rattle.rules.proofs.Laws.Tests.{and-left, not-both}
+use Rattle.rules.proofs.Laws.Ranges.{count-agree, count-snoc}
+use Rattle.rules.proofs.Laws.Words.{withWord-length, word-same, word-other-row, word-other-field}
+use Rattle.rules.proofs.Laws.Sets.{withSets-length, withSets-other-row, withSets-other-field, withSets-read, withSets-write}
+use Rattle.rules.proofs.Sound.Changes.{writes-agree, live-uncommitted}
+
+module _ (w : List ℕ) (p : ℕ) where
+  -- the number that the new action gets
+  abbrev pub new : ℕ
+  new = started w + 1
+
+  -- the table with the head, then the parent, then the state, then the end time put in; the sets come last
+  abbrev headed : List ℕ
+  headed = withStarted w new
+
+  abbrev parented : List ℕ
+  parented = withParent headed new p
+
+  abbrev stated : List ℕ
+  stated = withState parented new live
+
+  abbrev filled : List ℕ
+  filled = withEndTime stated new 0
+
+  filled-length : length filled ≡ length w
+  filled-length =
+      withWord-length stated new 2 0 ∙ withWord-length parented new 1 live ∙ withWord-length headed new 0 p ∙ withWord-length w 0 0 new
+
+  pub start-length : length (startTable w p) ≡ length w
+  unfolding startTable
+  start-length = withSets-length filled new _ _ ∙ filled-length
+
+  -- a row that is neither the head nor the new action's
+  pub start-keeps-row : (m g : ℕ) → g < width → 1 ≤ m → m ≢ new → word (startTable w p) m g ≡ word w m g
+  unfolding startTable
+  start-keeps-row m g h one ne =
+      withSets-other-row filled new _ _ m g h ne
+      ∙ word-other-row stated new m 2 g 0 (omega arith) h ne
+      ∙ word-other-row parented new m 1 g live (omega arith) h ne
+      ∙ word-other-row headed new m 0 g p (omega arith) h ne
+      ∙ word-other-row w 0 m 0 g new (omega arith) h (λ z. omega arith)
+
+  -- the head
+  head-from : (g : ℕ) → g < width → word (startTable w p) 0 g ≡ word headed 0 g
+  unfolding startTable
+  head-from g h =
+      withSets-other-row filled new _ _ 0 g h (λ z. omega arith)
+      ∙ word-other-row stated new 0 2 g 0 (omega arith) h (λ z. omega arith)
+      ∙ word-other-row parented new 0 1 g live (omega arith) h (λ z. omega arith)
+      ∙ word-other-row headed new 0 0 g p (omega arith) h (λ z. omega arith)
+
+  pub start-counter : counter (startTable w p) ≡ counter w
+  start-counter = head-from 1 (omega arith) ∙ word-other-field w 0 0 1 new (λ z. omega arith)
+
+  module _ (long : length w ≡ tableLength) (room : started w < mostActions) where
+    pub start-started : started (startTable w p) ≡ started w + 1
+    start-started = head-from 0 (omega arith) ∙ word-same w 0 0 new long (omega arith) (omega arith)
+
+    headed-long : length headed ≡ tableLength
+    headed-long = withWord-length w 0 0 new ∙ long
+
+    parented-long : length parented ≡ tableLength
+    parented-long = withWord-length headed new 0 p ∙ headed-long
+
+    stated-long : length stated ≡ tableLength
+    stated-long = withWord-length parented new 1 live ∙ parented-long
+
+    filled-long : length filled ≡ tableLength
+    filled-long = filled-length ∙ long
+
+    -- the new action's row
+    pub start-parent : parentOf (startTable w p) new ≡ p
+    unfolding startTable
+    start-parent =
+        withSets-other-field filled new _ _ 0 (omega arith)
+        ∙ word-other-field stated new 2 0 0 (λ z. omega arith)
+        ∙ word-other-field parented new 1 0 live (λ z. omega arith)
+        ∙ word-same headed new 0 p headed-long (omega arith) (omega arith)
+
+    pub start-state : stateOf (startTable w p) new ≡ live
+    unfolding startTable
+    start-state =
+        withSets-other-field filled new _ _ 1 (omega arith)
+        ∙ word-other-field stated new 2 1 0 (λ z. omega arith)
+        ∙ word-same parented new 1 live parented-long (omega arith) (omega arith)
+
+    pub start-end : endTime (startTable w p) new ≡ 0
+    unfolding startTable
+    start-end =
+        withSets-other-field filled new _ _ 2 (omega arith)
+        ∙ word-same stated new 2 0 stated-long (omega arith) (omega arith)
+
+    pub start-read : (k : ℕ) → k < accountCount → readEntry (startTable w p) new k ≡ 0
+    unfolding startTable
+    start-read = withSets-read filled new _ _ filled-long (omega arith)
+
+    pub start-write : (k : ℕ) → k < accountCount → writeEntry (startTable w p) new k ≡ 0
+    unfolding startTable
+    start-write = withSets-write filled new _ _ filled-long (omega arith)
+
+-- ---- the table stays sound
+
+module _ (w : List ℕ) (p : ℕ) (s : Sound w) (room : started w < mostActions) (known : p ≤ started w) (alive : 1 ≤ p → isLive w p ≡ true) where
+  -- a started action of the new table is one of the old, or the new one
+  old-or-new : (m : ℕ) → IsStarted (startTable w p) m → IsStarted w m ⊎ (m ≡ new w p)
+  old-or-new m h = go (ℕ-discrete m (started w + 1))
+    where
+      go : Dec (m ≡ started w + 1) → IsStarted w m ⊎ (m ≡ new w p)
+      go (yes e) = inr e
+      go (no ne) = inl (omega (arith, start-started w p (s .long) room))
+
+  -- what an old action's row holds
+  old-row : (m g : ℕ) → IsStarted w m → g < width → word (startTable w p) m g ≡ word w m g
+  old-row m g h hg = start-keeps-row w p m g hg (h .0) (λ z. omega arith)
+
+  old-end : (m : ℕ) → IsStarted w m → hasEnd (startTable w p) m ≡ hasEnd w m
+  old-end m h =
+      rw (old-row m 1 h (omega arith), writes-agree w (startTable w p) m (λ k hk. old-row m (writeField k) h (omega arith))) refl
+
+  -- the new action is live, so it has no end
+  new-no-end : hasEnd (startTable w p) (new w p) ≡ true → ⊥
+  new-no-end e =
+      live-uncommitted (startTable w p) (new w p) (eq-eqb _ _ (start-state w p (s .long) room))
+      (and-left (isCommitted (startTable w p) (new w p)) _ e)
+
+  -- a test that holds of every old action and of the new one holds of every action
+  by-age :
+      (P : ℕ → Type 0) → ((m : ℕ) → IsStarted w m → P m) → P (new w p) → (m : ℕ) → IsStarted (startTable w p) m → P m
+  by-age P old fresh m h = ⊎-elim (old m) (λ e. rw e fresh) (old-or-new m h)
+
+  no-fewer-committed : counter w ≤ count (isCommitted (startTable w p)) (actions (startTable w p))
+  unfolding actions
+  no-fewer-committed =
+      rw (
+        start-started w p (s .long) room,
+        add-one (started w),
+        count-snoc (isCommitted (startTable w p)) 1 (started w),
+        count-agree (isCommitted (startTable w p)) (isCommitted w) 1 (started w)
+            (λ m h. ap (λ x. eqb x committed) (old-row m 1 (omega arith) (omega arith))),
+      )
+      (omega (arith, s .counted))
+
+  -- a parent that was 0 or live still is
+  parent-alive : (q : ℕ) → q ≤ started w → (q ≡ 0) ⊎ (isLive w q ≡ true) → (q ≡ 0) ⊎ (isLive (startTable w p) q ≡ true)
+  parent-alive q known (inl e) = inl e
+  parent-alive q known (inr l) = go (ℕ-discrete q 0)
+    where
+      go : Dec (q ≡ 0) → (q ≡ 0) ⊎ (isLive (startTable w p) q ≡ true)
+      go (yes e) = inl e
+      go (no ne) = inr (rw (old-row q 1 (omega arith) (omega arith)) l)
+
+  no-read : (k : ℕ) → k < accountCount → hasRead (startTable w p) (new w p) k ≡ true → ⊥
+  no-read k hk r = not-both r (rw (start-read w p (s .long) room k hk))
+
+  pub start-keeps-sound : Sound (startTable w p)
+  start-keeps-sound =
+      record {
+        long = start-length w p ∙ s .long;
+        few = rw (start-started w p (s .long) room) (omega arith);
+        states =
+            by-age _ (λ m h. rw (old-row m 1 h (omega arith)) (s .states m h)) (rw (start-state w p (s .long) room) refl);
+        counted = rw (start-counter w p) no-fewer-committed;
+        below =
+            by-age _ (λ m h. rw (old-row m 0 h (omega arith)) (s .below m h)) (rw (start-parent w p (s .long) room) (omega arith));
+        alive =
+            by-age _
+            (λ m h l.
+            rw (old-row m 0 h (omega arith))
+            (parent-alive (parentOf w m) (omega (arith, s .below m h)) (s .alive m h (rw (old-row m 1 h (omega arith)) at l))))
+            (λ l. rw (start-parent w p (s .long) room) (parent-alive p known (store-or-live (ℕ-discrete p 0))));
+        reads =
+            λ m k h. by-age (λ x. isLive (startTable w p) x ≡ true → k < accountCount → hasRead (startTable w p) x k ≡ true → readTime (startTable w p) x k ≤ counter (startTable w p))
+            (λ x hx l hk r.
+            rw (old-row x (readField k) hx (omega arith), start-counter w p)
+            (s .reads x k hx (rw (old-row x 1 hx (omega arith)) at l) hk (rw (old-row x (readField k) hx (omega arith)) at r)))
+            (λ l hk r. absurd (no-read k hk r)) m h;
+        ends =
+            by-age _
+            (λ m h e. rw (old-row m 2 h (omega arith), start-counter w p) (s .ends m h (rw (old-end m h) at e)))
+            (λ e. absurd (new-no-end e));
+        alone = ends-alone;
+      }
+    where
+      store-or-live : Dec (p ≡ 0) → (p ≡ 0) ⊎ (isLive w p ≡ true)
+      store-or-live (yes e) = inl e
+      store-or-live (no ne) = inr (alive (omega arith))
+
+      ends-alone :
+          (n m : ℕ) → IsStarted (startTable w p) n → IsStarted (startTable w p) m → hasEnd (startTable w p) n ≡ true →
+          hasEnd (startTable w p) m ≡ true → parentOf (startTable w p) m ≡ parentOf (startTable w p) n →
+          endTime (startTable w p) m ≡ endTime (startTable w p) n → m ≡ n
+      ends-alone n m hn hm en em parents ends =
+          ⊎-elim
+          (λ on. ⊎-elim
+          (λ om.
+          s .alone n m on om (rw (old-end n on) at en) (rw (old-end m om) at em)
+          (sym (old-row m 0 om (omega arith)) ∙ parents ∙ old-row n 0 on (omega arith))
+          (sym (old-row m 2 om (omega arith)) ∙ ends ∙ old-row n 2 on (omega arith)))
+          (λ e. absurd (new-no-end (rw e at em))) (old-or-new m hm))
+          (λ e. absurd (new-no-end (rw e at en))) (old-or-new n hn)

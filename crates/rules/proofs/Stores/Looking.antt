@@ -1,0 +1,58 @@
+-- A look: refused exactly when a read event of that action and account is, and then with the empty part; else the part
+-- is a whole card inside its store. Assumes nothing.
+use Prim.Native.Nat.{ℕ, _+_, _≤_}
+use native.Mathlib.Omega.{arith}
+use mathlib.Core.Path.{_≡_, refl, sym, _∙_}
+use mathlib.Core.Logic.{_≢_}
+use mathlib.Core.List.{List, []}
+use lib.Dec.{eqb}
+use lib.ListN.{length}
+use borrow.Author.Tests.{eq-eqb, ne-eqb}
+use Rattle.rules.specs.Card.{cardLength}
+use Rattle.rules.specs.Table.{mostActions}
+use Rattle.rules.specs.Event.{readBy}
+use Rattle.rules.specs.Cause.{causesOf, causeOf}
+use Rattle.rules.specs.Nearest.{nearest}
+use Rattle.rules.specs.Look.{lookCause, Part, emptyPart, cardPart, look, held}
+use Rattle.rules.proofs.Laws.Tests.{cond-holds}
+use Rattle.rules.proofs.Laws.Walking.{nearest-started}
+use Rattle.rules.proofs.Sound.Soundness.{facts}
+use Rattle.rules.proofs.Laws.Causes.{allowed}
+use Rattle.rules.proofs.Stores.Copies.{base-line, shadow-line, line-fits}
+
+-- "is refused exactly when a read event of that action and account is", and by the same cause
+pub look-refused-as-read :
+    (w base shadow : List ℕ) (n k : ℕ) (card : List ℕ) →
+    lookCause w base shadow n k ≡ causeOf w base shadow (record { code = 2; number = n; account = k; card = card })
+unfolding lookCause causeOf causesOf
+look-refused-as-read w base shadow n k card = refl
+
+-- "A refused look also hands back the empty part at the start of the base store."
+pub look-refused :
+    (w base shadow : List ℕ) (n k : ℕ) → lookCause w base shadow n k ≢ 0 →
+    look w base shadow n k ≡ record { cause = lookCause w base shadow n k; part = emptyPart }
+unfolding look
+look-refused w base shadow n k h = rw (ne-eqb (lookCause w base shadow n k) 0 h)
+
+pub look-given :
+    (w base shadow : List ℕ) (n k : ℕ) → lookCause w base shadow n k ≡ 0 →
+    look w base shadow n k ≡ record { cause = 0; part = cardPart (nearest w n k) k }
+unfolding look
+look-given w base shadow n k h = rw (eq-eqb (lookCause w base shadow n k) 0 h)
+
+-- ---- the part of a look that isn't refused
+
+-- a part that is a card of 32 bytes inside its store
+abbrev pub IsWholeCard : List ℕ → List ℕ → Part → Type 0
+IsWholeCard base shadow p = (p .size ≡ cardLength) × (p .place + p .size ≤ length (held base shadow (p .store)))
+
+pub look-inside :
+    (w base shadow : List ℕ) (n k : ℕ) → lookCause w base shadow n k ≡ 0 → IsWholeCard base shadow (look w base shadow n k .part)
+look-inside w base shadow n k h =
+    let a = allowed w base shadow (readBy n k) (sym (look-refused-as-read w base shadow n k []) ∙ h) in
+    let sound = facts w (a .soundTest) in
+    let few : nearest w n k ≤ mostActions = omega (arith, nearest-started w sound n k (a .numberKnown), a .numberKnown, sound .few) in
+    let inBaseStore = line-fits (base-line base (a .baseFits)) k (a .accountKnown refl) in
+    let inShadowStore = line-fits (shadow-line shadow (nearest w n k) (a .shadowFits) few) k (a .accountKnown refl) in
+    rw (look-given w base shadow n k h)
+    (cond-holds (IsWholeCard base shadow) (eqb (nearest w n k) 0) (λ _. (refl, inBaseStore)) (λ _. (refl, inShadowStore)))

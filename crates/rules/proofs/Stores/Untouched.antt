@@ -1,0 +1,223 @@
+-- What an event leaves as it was: a refused one everything, any other each byte of the two stores that document 01
+-- doesn't say it changes, and the stores' lengths. Assumes nothing.
+use Prim.Native.Nat.{ℕ, _+_, _≤_, _<_}
+use native.Mathlib.Omega.{arith}
+use mathlib.Core.Path.{_≡_, refl, _∙_}
+use mathlib.Core.Logic.{inl, inr, ⊎-elim, _≢_}
+use mathlib.Core.Bool.{Bool, true, false, not, _&&_, true≢false}
+use mathlib.Core.List.{List, [], _∷_}
+use lib.Dec.{leb, ltb, eqb}
+use lib.ListN.{length, getD}
+use borrow.Author.Tests.{leb-false, ltb-false, ne-eqb}
+use Rattle.rules.specs.declared.Answer.{Answer}
+use Rattle.rules.specs.declared.Answer.the-variants.{Started, Read, Written, Committed, Failed, Aborted, Refused}
+use Rattle.rules.specs.Card.{accountCount, accounts, cardLength, basePlace, shadowPlace, withCard}
+use Rattle.rules.specs.Table.{mostActions, parentOf, hasWritten}
+use Rattle.rules.specs.Event.{Event, isRead, isWrite, isCommit}
+use Rattle.rules.specs.Clash.{Found, none, at, firstClash}
+use Rattle.rules.specs.Step.{State, start, read, write, copyCards, committedUnder, judged, commit, abort, act, step}
+use Rattle.rules.specs.Run.{run}
+use Rattle.rules.specs.Touch.{isInCard, isPut, isCopied, isClear, isCommitting, mayChangeBase, mayChangeShadow}
+use Rattle.rules.proofs.Laws.Tests.{not-holds, and-fails, or-fails, and-left, and-both, or-inr, test, cond-holds}
+use Rattle.rules.proofs.Laws.Ranges.{not-any-at}
+use Rattle.rules.proofs.Laws.Sets.{account-within}
+use Rattle.rules.proofs.Sound.Soundness.{facts}
+use Rattle.rules.proofs.Laws.Cards.{Fits, Outside, withCard-length, withCard-outside}
+use Rattle.rules.proofs.Laws.Steps.{causeIn, AllowedIn, step-by-cause, act-by-kind, commit-no-start}
+use Rattle.rules.proofs.Stores.Copies.{Line, base-line, shadow-line, line-fits, copyCards-length, copyCards-outside}
+
+-- ---- refused events: "Left as it was: table, both stores"
+
+pub cause-leaves : (s : State) (e : Event) → causeIn s e ≢ 0 → step s e ≡ record { answer = Refused (causeIn s e); after = s }
+unfolding step
+cause-leaves s e h = rw (ne-eqb (causeIn s e) 0 h)
+
+abbrev isRefused : Answer → Bool
+isRefused (Started n) = false
+isRefused (Read n) = false
+isRefused Written = false
+isRefused (Committed t) = false
+isRefused (Failed t k) = false
+isRefused (Aborted n) = false
+isRefused (Refused c) = true
+
+act-not-refused : (s : State) (e : Event) → isRefused (act s e .answer) ≡ false
+unfolding start read write commit abort judged
+act-not-refused s e =
+    act-by-kind s e (λ o. isRefused (o .answer) ≡ false) (λ _. refl) (λ _. refl) (λ _. refl)
+    (λ _. judged-not (firstClash (s .table) (e .number)))
+    (λ _. refl)
+  where
+    judged-not : (found : Found) → isRefused (judged s (e .number) found .answer) ≡ false
+    judged-not none = refl
+    judged-not (at t k) = refl
+
+pub refused-leaves : (s : State) (e : Event) (c : ℕ) → step s e .answer ≡ Refused c → step s e .after ≡ s
+refused-leaves s e c =
+    step-by-cause s e (λ o. o .answer ≡ Refused c → o .after ≡ s) (λ _. refl)
+    (λ _ refused. absurd (true≢false (rw refused at (act-not-refused s e))))
+
+-- ---- what a store can become: itself, or itself with the card of a write or the copies of a commit
+
+-- the cards that a commit of the event's action puts at its parent's places
+abbrev pub copies : State → Event → (ℕ → ℕ) → List ℕ → List ℕ
+copies s e place to = copyCards (s .table) (e .number) (s .shadow) place to
+
+abbrev pub parentIn : State → Event → ℕ
+parentIn s e = parentOf (s .table) (e .number)
+
+abbrev clash : State → Event → Found
+clash s e = firstClash (s .table) (e .number)
+
+module _ (s : State) (e : Event) (P : List ℕ → Type 0) where
+  judged-base :
+      (found : Found) → P (s .base) → (isClear found ≡ true → eqb (parentIn s e) 0 ≡ true → P (copies s e basePlace (s .base))) →
+      P (judged s (e .number) found .after .base)
+  unfolding judged committedUnder
+  judged-base none same copied = cond-holds P (eqb (parentIn s e) 0) (copied refl) (λ _. same)
+  judged-base (at t k) same copied = same
+
+  judged-shadow :
+      (found : Found) → P (s .shadow) →
+      (isClear found ≡ true → eqb (parentIn s e) 0 ≡ false → P (copies s e (shadowPlace (parentIn s e)) (s .shadow))) →
+      P (judged s (e .number) found .after .shadow)
+  unfolding judged committedUnder
+  judged-shadow none same copied = cond-holds P (eqb (parentIn s e) 0) (λ _. same) (copied refl)
+  judged-shadow (at t k) same copied = same
+
+  pub base-after :
+      P (s .base) →
+      (AllowedIn s e → isCommitting (s .table) e ≡ true → eqb (parentIn s e) 0 ≡ true → P (copies s e basePlace (s .base))) →
+      P (step s e .after .base)
+  unfolding start read write commit abort
+  base-after same copied =
+      step-by-cause s e (λ o. P (o .after .base)) same
+      (λ a. act-by-kind s e (λ o. P (o .after .base)) (λ _. same) (λ _. same) (λ _. same) (commits a) (λ _. same))
+    where
+      commits : AllowedIn s e → isCommit e ≡ true → P (commit s (e .number) .after .base)
+      commits a is = judged-base (clash s e) same (λ clear. copied a (and-both is clear))
+
+  pub shadow-after :
+      P (s .shadow) →
+      (AllowedIn s e → isWrite e ≡ true → P (withCard (s .shadow) (shadowPlace (e .number) (e .account)) (e .card))) →
+      (AllowedIn s e → isCommitting (s .table) e ≡ true → eqb (parentIn s e) 0 ≡ false →
+      P (copies s e (shadowPlace (parentIn s e)) (s .shadow))) →
+      P (step s e .after .shadow)
+  unfolding start read write commit abort
+  shadow-after same written copied =
+      step-by-cause s e (λ o. P (o .after .shadow)) same
+      (λ a. act-by-kind s e (λ o. P (o .after .shadow)) (λ _. same) (λ _. same) (written a) (commits a) (λ _. same))
+    where
+      commits : AllowedIn s e → isCommit e ≡ true → P (commit s (e .number) .after .shadow)
+      commits a is = judged-shadow (clash s e) same (λ clear. copied a (and-both is clear))
+
+-- ---- an allowed event: where its cards stand, and what putting them there leaves
+
+outside-card : (place i : ℕ) → isInCard place i ≡ false → Outside place i
+outside-card place i h =
+    ⊎-elim
+    (λ above. inr (ltb-false i (place + cardLength) (and-fails (leb place i) (ltb i (place + cardLength)) .0 h above)))
+    (λ below. inl (leb-false place i below))
+    (test (leb place i))
+
+outside-copied :
+    (w : List ℕ) (n : ℕ) (place : ℕ → ℕ) (i : ℕ) → isCopied w n place i ≡ false →
+    (k : ℕ) → k < accountCount → hasWritten w n k ≡ true → Outside (place k) i
+unfolding isCopied accounts
+outside-copied w n place i h k hk written =
+    let notHere = not-any-at (λ j. hasWritten w n j && isInCard (place j) i) 0 accountCount k h (account-within hk) in
+    outside-card (place k) i (and-fails (hasWritten w n k) (isInCard (place k) i) .0 notHere written)
+
+module _ (s : State) (e : Event) (a : AllowedIn s e) where
+  number-few : e .number ≤ mostActions
+  number-few = omega (arith, a .numberKnown, facts (s .table) (a .soundTest) .few)
+
+  own-line : Line (shadowPlace (e .number)) (s .shadow)
+  own-line = shadow-line (s .shadow) (e .number) (a .shadowFits) number-few
+
+  store-line : Line basePlace (s .base)
+  store-line = base-line (s .base) (a .baseFits)
+
+  -- "each started action's parent is below its own number", so that the parent's cards have a place too
+  parent-line : isCommitting (s .table) e ≡ true → Line (shadowPlace (parentIn s e)) (s .shadow)
+  parent-line committing =
+      let no-start = commit-no-start e (and-left (isCommit e) _ committing) in
+      let below = facts (s .table) (a .soundTest) .below (e .number) (a .named no-start, a .numberKnown) in
+      shadow-line (s .shadow) (parentIn s e) (a .shadowFits) (omega (arith, number-few))
+
+  written-fits : isWrite e ≡ true → Fits (s .shadow) (shadowPlace (e .number) (e .account))
+  written-fits writes = line-fits own-line (e .account) (a .accountKnown (or-inr (isRead e) writes))
+
+  written-length :
+      isWrite e ≡ true → length (withCard (s .shadow) (shadowPlace (e .number) (e .account)) (e .card)) ≡ length (s .shadow)
+  written-length writes = withCard-length (s .shadow) _ (e .card) (written-fits writes) (a .cardFits writes)
+
+  written-untouched :
+      isWrite e ≡ true → (i : ℕ) → isPut e i ≡ false →
+      getD (withCard (s .shadow) (shadowPlace (e .number) (e .account)) (e .card)) i 0 ≡ getD (s .shadow) i 0
+  written-untouched writes i h =
+      let place = shadowPlace (e .number) (e .account) in
+      let outside = outside-card place i (and-fails (isWrite e) (isInCard place i) .0 h writes) in
+      withCard-outside (s .shadow) place (e .card) (written-fits writes) (a .cardFits writes) i outside
+
+  module _ (place : ℕ → ℕ) (to : List ℕ) (line : Line place to) where
+    copies-length : length (copies s e place to) ≡ length to
+    copies-length = copyCards-length (s .table) (e .number) (s .shadow) own-line place to line
+
+    copies-untouched : (i : ℕ) → isCopied (s .table) (e .number) place i ≡ false → getD (copies s e place to) i 0 ≡ getD to i 0
+    copies-untouched i h =
+        copyCards-outside (s .table) (e .number) (s .shadow) own-line place to line i
+        (outside-copied (s .table) (e .number) place i h)
+
+-- ---- lengths
+
+pub record SameLengths (s t : State) : Type 0 where
+  pub ofBase : length (t .base) ≡ length (s .base)
+  pub ofShadow : length (t .shadow) ≡ length (s .shadow)
+
+pub lengths-kept : (s : State) (e : Event) → SameLengths s (step s e .after)
+lengths-kept s e =
+    record {
+      ofBase =
+          base-after s e (λ t. length t ≡ length (s .base)) refl
+          (λ a _ _. copies-length s e a basePlace (s .base) (store-line s e a));
+      ofShadow =
+          shadow-after s e (λ t. length t ≡ length (s .shadow)) refl
+          (written-length s e)
+          (λ a committing _. copies-length s e a (shadowPlace (parentIn s e)) (s .shadow) (parent-line s e a committing));
+    }
+
+pub run-lengths-kept : (s : State) (es : List Event) → SameLengths s (run s es .after)
+unfolding run
+run-lengths-kept s [] = record { ofBase = refl; ofShadow = refl }
+run-lengths-kept s (e ∷ es) =
+    let one = lengths-kept s e in
+    let rest = run-lengths-kept (step s e .after) es in
+    record { ofBase = rest .ofBase ∙ one .ofBase; ofShadow = rest .ofShadow ∙ one .ofShadow }
+
+-- ---- bytes: "No other byte of either store changes."
+
+pub base-untouched :
+    (s : State) (e : Event) (i : ℕ) → mayChangeBase (s .table) e i ≡ false → getD (step s e .after .base) i 0 ≡ getD (s .base) i 0
+unfolding mayChangeBase
+base-untouched s e i may =
+    base-after s e (λ t. getD t i 0 ≡ getD (s .base) i 0) refl
+    (λ a committing top. copies-untouched s e a basePlace (s .base) (store-line s e a) i (not-copied (and-both committing top)))
+  where
+    not-copied : (isCommitting (s .table) e && eqb (parentIn s e) 0) ≡ true → isCopied (s .table) (e .number) basePlace i ≡ false
+    not-copied = and-fails (isCommitting (s .table) e && eqb (parentIn s e) 0) (isCopied (s .table) (e .number) basePlace i) .0 may
+
+pub shadow-untouched :
+    (s : State) (e : Event) (i : ℕ) → mayChangeShadow (s .table) e i ≡ false →
+    getD (step s e .after .shadow) i 0 ≡ getD (s .shadow) i 0
+unfolding mayChangeShadow
+shadow-untouched s e i may =
+    let copied = isCopied (s .table) (e .number) (shadowPlace (parentIn s e)) i in
+    let toParent = isCommitting (s .table) e && not (eqb (parentIn s e) 0) in
+    let (notPut, notThere) = or-fails (isPut e i) (toParent && copied) .0 may in
+    let notCopied = and-fails toParent copied .0 notThere in
+    shadow-after s e (λ t. getD t i 0 ≡ getD (s .shadow) i 0) refl
+    (λ a writes. written-untouched s e a writes i notPut)
+    (λ a committing sub.
+    copies-untouched s e a (shadowPlace (parentIn s e)) (s .shadow) (parent-line s e a committing) i
+    (notCopied (and-both committing (not-holds (eqb (parentIn s e) 0) .1 sub))))

@@ -1,0 +1,25 @@
+-- Answers: for each case of the type, document 01's word and the numbers that follow it, in their order.
+-- Assumes nothing.
+use Prim.Native.Nat.{ℕ}
+use mathlib.Core.List.{List, [], _∷_}
+use Rattle.rules.specs.declared.Answer.{Answer}
+use Rattle.rules.specs.declared.Answer.the-variants.{Started, Read, Written, Committed, Failed, Aborted, Refused}
+
+-- a word as its letters, in ASCII
+pub record Said : Type 0 where
+  pub word : List ℕ
+  pub numbers : List ℕ
+
+abbrev pub one : ℕ → List ℕ
+one n = n ∷ []
+
+-- "Answer: started, number."  "read, and the number of the action whose card is the nearest version"  "written"
+-- "committed, end time"  "failed, the end time and account of the clash"  "aborted, how many became so"  "refused 1"
+abbrev pub said : Answer → Said
+said (Started n) = record { word = 115 ∷ 116 ∷ 97 ∷ 114 ∷ 116 ∷ 101 ∷ 100 ∷ []; numbers = n ∷ [] }
+said (Read n) = record { word = 114 ∷ 101 ∷ 97 ∷ 100 ∷ []; numbers = n ∷ [] }
+said Written = record { word = 119 ∷ 114 ∷ 105 ∷ 116 ∷ 116 ∷ 101 ∷ 110 ∷ []; numbers = [] }
+said (Committed t) = record { word = 99 ∷ 111 ∷ 109 ∷ 109 ∷ 105 ∷ 116 ∷ 116 ∷ 101 ∷ 100 ∷ []; numbers = t ∷ [] }
+said (Failed t k) = record { word = 102 ∷ 97 ∷ 105 ∷ 108 ∷ 101 ∷ 100 ∷ []; numbers = t ∷ k ∷ [] }
+said (Aborted n) = record { word = 97 ∷ 98 ∷ 111 ∷ 114 ∷ 116 ∷ 101 ∷ 100 ∷ []; numbers = n ∷ [] }
+said (Refused c) = record { word = 114 ∷ 101 ∷ 102 ∷ 117 ∷ 115 ∷ 101 ∷ 100 ∷ []; numbers = c ∷ [] }

@@ -1,0 +1,35 @@
+-- Runs of numbers, and what is asked of them or done for each of them: document 01 speaks of "each account"
+-- and "each started action". Assumes nothing.
+use Prim.Native.Nat.{ℕ, zero, suc}
+use mathlib.Core.Bool.{Bool, true, false, cond, _&&_, _||_}
+use mathlib.Core.List.{List, [], _∷_}
+
+-- the n numbers from a on, rising
+unfoldable pub upFrom : ℕ → ℕ → List ℕ
+upFrom a zero = []
+upFrom a (suc n) = a ∷ upFrom (suc a) n
+
+-- f holds of one of them at least
+unfoldable pub any : (ℕ → Bool) → List ℕ → Bool
+any f [] = false
+any f (x ∷ xs) = f x || any f xs
+
+-- f holds of each of them
+unfoldable pub all : (ℕ → Bool) → List ℕ → Bool
+all f [] = true
+all f (x ∷ xs) = f x && all f xs
+
+-- of how many of them f holds
+unfoldable pub count : (ℕ → Bool) → List ℕ → ℕ
+count f [] = zero
+count f (x ∷ xs) = let rest = count f xs in cond (f x) (suc rest) rest
+
+-- those of which f holds, in their order
+unfoldable pub keep : (ℕ → Bool) → List ℕ → List ℕ
+keep f [] = []
+keep f (x ∷ xs) = let rest = keep f xs in cond (f x) (x ∷ rest) rest
+
+-- a changed by f once for each of them, in their order
+unfoldable pub each : {A : Type 0} → (ℕ → A → A) → List ℕ → A → A
+each f [] a = a
+each f (x ∷ xs) a = each f xs (f x a)

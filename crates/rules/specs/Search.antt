@@ -1,0 +1,35 @@
+-- The search that finds the first clash: "both the records and the accounts are left at the first clash, records taken
+-- by rising end time". proofs/Clash/Searching.antt shows that it finds `firstClash`. Assumes nothing.
+use Prim.Native.Nat.{ℕ, zero, suc}
+use mathlib.Core.Bool.{cond, _&&_, _||_}
+use mathlib.Core.List.{List, [], _∷_}
+use lib.Dec.{ltb, eqb}
+use Rattle.rules.specs.Card.{accounts}
+use Rattle.rules.specs.Table.{mostActions, parentOf, endTime, records}
+use Rattle.rules.specs.Clash.{isClash, Found, none, at}
+
+-- of the actions ms the one with the smallest end time above t, 0 where there is none
+unfoldable pub nextAfter : List ℕ → ℕ → List ℕ → ℕ
+nextAfter w t [] = 0
+nextAfter w t (m ∷ ms) =
+    let next = nextAfter w t ms in
+    let sooner = ltb t (endTime w m) && (eqb next 0 || ltb (endTime w m) (endTime w next)) in
+    cond sooner m next
+
+-- the first of the accounts ks at which n clashes with record m; else what `rest` finds
+unfoldable pub searchAccounts : List ℕ → ℕ → ℕ → Found → List ℕ → Found
+searchAccounts w n m rest [] = rest
+searchAccounts w n m rest (k ∷ ks) =
+    let later = searchAccounts w n m rest ks in
+    cond (isClash w n m k) (at (endTime w m) k) later
+
+-- the records with end times above t, by rising end time; the first number bounds how many there are
+unfoldable pub searchRecords : List ℕ → ℕ → ℕ → ℕ → Found
+searchRecords w n zero t = none
+searchRecords w n (suc left) t =
+    let m = nextAfter w t (records w (parentOf w n)) in
+    let here = searchAccounts w n m (searchRecords w n left (endTime w m)) accounts in
+    cond (eqb m 0) none here
+
+unfoldable pub search : List ℕ → ℕ → Found
+search w n = searchRecords w n mostActions 0
