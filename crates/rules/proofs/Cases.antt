@@ -1,19 +1,30 @@
--- The starred cases of document 01, proved by computing each over a table and stores of full size. Assumes nothing.
+-- The starred cases of document 01, and a serial run worked through, proved by computing each over a table and stores of
+-- full size. Assumes nothing.
 use mathlib.Core.Path.{_≡_, refl}
 use mathlib.Core.List.{map}
 use Rattle.rules.specs.Range.{upFrom, any, all, count, keep, each}
 use Rattle.rules.specs.Card.{accounts, cardAt, withCard}
 use Rattle.rules.specs.Table.{word, withWord, newTable, hasWrites, withSets, actions, hasLiveChild, isRecordOf, records}
 use Rattle.rules.specs.Walk.{walkUp, isAtOrBelow}
-use Rattle.rules.specs.Sound.{hasReadInTime, hasEndAlone, sound}
-use Rattle.rules.specs.Cause.{causesOf, causeOf}
+use Rattle.rules.specs.Sound.{hasReadInTime, hasEndAlone, isSoundAction, sound}
+use Rattle.rules.specs.Cause.{storeCauses, eventCauses, causesOf, causeOf}
 use Rattle.rules.specs.Nearest.{nearest}
 use Rattle.rules.specs.Look.{lookCause, look}
 use Rattle.rules.specs.Clash.{pairsWith, clashesWith, clashes, least, firstClash}
 use Rattle.rules.specs.Step.{start, startTable, read, readTable, write, writeTable, commit, commitTime, commitCounter, joinTable, commitTable, copyCards, committedUnder, judged, abort, abortTable, act, step}
 use Rattle.rules.specs.Run.{run}
 use Rattle.rules.specs.Case.{resultOf, cases}
+use Rattle.rules.specs.Serial.Effect.{over, lay}
+use Rattle.rules.specs.Serial.Collect.{put, commitsAt, laidAll, stepped, collectOne, collectFrom, unknown, storeBlock}
+use Rattle.rules.specs.Serial.Steps.{stepsOf}
+use Rattle.rules.specs.Serial.Machine.{shows, settle, written, ended, turn, turns, serial}
+use Rattle.rules.specs.Serial.Example.{example, exampleRun, exampleExpected}
 
 pub cases-hold : map (λ c. resultOf (c .question)) cases ≡ map (λ c. c .expected) cases
-unfolding upFrom any all count keep each accounts cardAt withCard word withWord newTable hasWrites withSets actions hasLiveChild isRecordOf records walkUp isAtOrBelow hasReadInTime hasEndAlone sound causesOf causeOf nearest lookCause look pairsWith clashesWith clashes least firstClash start startTable read readTable write writeTable commit commitTime commitCounter joinTable commitTable copyCards committedUnder judged abort abortTable act step run resultOf cases
+unfolding upFrom any all count keep each accounts cardAt withCard word withWord newTable hasWrites withSets actions hasLiveChild isRecordOf records walkUp isAtOrBelow hasReadInTime hasEndAlone isSoundAction sound storeCauses eventCauses causesOf causeOf nearest lookCause look pairsWith clashesWith clashes least firstClash start startTable read readTable write writeTable commit commitTime commitCounter joinTable commitTable copyCards committedUnder judged abort abortTable act step run resultOf cases
 cases-hold = refl
+
+-- the example of specs/Serial/Example.antt
+pub example-holds : exampleRun ≡ exampleExpected
+unfolding upFrom any all count keep each accounts cardAt withCard word withWord newTable hasWrites withSets actions hasLiveChild isRecordOf records walkUp isAtOrBelow hasReadInTime hasEndAlone isSoundAction sound storeCauses eventCauses causesOf causeOf nearest pairsWith clashesWith clashes least firstClash start startTable read readTable write writeTable commit commitTime commitCounter joinTable commitTable copyCards committedUnder judged abort abortTable act step run over lay put commitsAt laidAll stepped collectOne collectFrom unknown storeBlock stepsOf shows settle written ended turn turns serial example exampleRun exampleExpected
+example-holds = refl

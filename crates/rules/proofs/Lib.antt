@@ -4,3 +4,5 @@ pub mod Sound
 pub mod Clash
 pub mod Stores
 pub mod Cases
+pub mod Serial
+pub mod Demand

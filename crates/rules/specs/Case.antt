@@ -8,7 +8,7 @@ use Rattle.rules.specs.declared.Answer.the-variants.{Started, Read, Writ
 use Rattle.rules.specs.Card.{cardLength, baseLength, shadowLength, basePlace, cardAt}
 use Rattle.rules.specs.Table.{newTable, started, counter}
 use Rattle.rules.specs.Event.{Event, startUnder, readBy, writeBy, commitOf, abortOf}
-use Rattle.rules.specs.Look.{look, bytesOf}
+use Rattle.rules.specs.Look.{lookedCard}
 use Rattle.rules.specs.Step.{State}
 use Rattle.rules.specs.Run.{run}
 
@@ -39,10 +39,6 @@ pub record Result : Type 0 where
   pub baseCards : List (List ℕ)
   pub looks : List (List ℕ)
 
-abbrev pub shown : State → Spot → List ℕ
-shown s spot =
-    bytesOf (s .base) (s .shadow) (look (s .table) (s .base) (s .shadow) (spot .action) (spot .account) .part)
-
 unfoldable pub resultOf : Question → Result
 resultOf q =
     let ran = run opening (q .events) in
@@ -51,7 +47,7 @@ resultOf q =
       starts = started (ran .after .table);
       count = counter (ran .after .table);
       baseCards = map (λ k. cardAt (ran .after .base) (basePlace k)) (q .baseAccounts);
-      looks = map (shown (ran .after)) (q .spots);
+      looks = map (λ spot. lookedCard (ran .after .table) (ran .after .base) (ran .after .shadow) (spot .action) (spot .account)) (q .spots);
     }
 
 pub record Case : Type 0 where

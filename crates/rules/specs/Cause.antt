@@ -1,7 +1,7 @@
 -- Why an event is refused (document 01, "Causes and their numbers", 1 to 9). Assumes nothing.
 use Prim.Native.Nat.{ℕ}
 use mathlib.Core.Bool.{Bool, not, cond, _&&_, _||_}
-use mathlib.Core.List.{List, [], _∷_}
+use mathlib.Core.List.{List, [], _∷_, _++_}
 use lib.Dec.{leb, ltb, eqb}
 use lib.ListN.{length}
 use Rattle.rules.specs.Card.{accountCount, cardLength, baseLength, shadowLength}
@@ -52,12 +52,17 @@ isCardMisfit used card = used && not (eqb (length card) cardLength)
 abbrev pub isChildLive : List ℕ → Bool → ℕ → Bool
 isChildLive w used n = used && hasLiveChild w n
 
--- the causes 1 to 9 as document 01's table lists them
-unfoldable pub causesOf : List ℕ → List ℕ → List ℕ → Event → List Cause
-causesOf w base shadow e =
+-- the causes of every call, 1 and 2, as document 01's table lists them
+unfoldable pub storeCauses : List ℕ → List ℕ → List ℕ → List Cause
+storeCauses w base shadow =
     record { number = 1; applies = isStoreMisfit base shadow }
     ∷ record { number = 2; applies = not (sound w) }
-    ∷ record { number = 3; applies = isCodeUnknown (e .code) }
+    ∷ []
+
+-- the causes of an event to a sound table over stores that fit, 3 to 9
+unfoldable pub eventCauses : List ℕ → Event → List Cause
+eventCauses w e =
+    record { number = 3; applies = isCodeUnknown (e .code) }
     ∷ record { number = 4; applies = isNumberUnknown w (isStart e) (e .number) }
     ∷ record { number = 5; applies = isNotLive w (e .number) }
     ∷ record { number = 6; applies = isTableFull w (isStart e) }
@@ -65,6 +70,10 @@ causesOf w base shadow e =
     ∷ record { number = 8; applies = isCardMisfit (isWrite e) (e .card) }
     ∷ record { number = 9; applies = isChildLive w (isRead e || isWrite e || isCommit e) (e .number) }
     ∷ []
+
+-- the causes 1 to 9
+unfoldable pub causesOf : List ℕ → List ℕ → List ℕ → Event → List Cause
+causesOf w base shadow e = storeCauses w base shadow ++ eventCauses w e
 
 -- the number of an event's lowest cause, 0 where it has none
 unfoldable pub causeOf : List ℕ → List ℕ → List ℕ → Event → ℕ

@@ -15,3 +15,4 @@ pub mod Step
 pub mod Run
 pub mod Touch
 pub mod Case
+pub mod Serial

@@ -61,3 +61,7 @@ held base shadow inShadow = shadow
 
 abbrev pub bytesOf : List ℕ → List ℕ → Part → List ℕ
 bytesOf base shadow p = take (p .size) (drop (p .place) (held base shadow (p .store)))
+
+-- the card that a look shows
+abbrev pub lookedCard : List ℕ → List ℕ → List ℕ → ℕ → ℕ → List ℕ
+lookedCard w base shadow n k = bytesOf base shadow (look w base shadow n k .part)

@@ -39,18 +39,23 @@ isTwin w n m = hasEnd w m && eqb (parentOf w m) (parentOf w n) && eqb (endTime w
 unfoldable pub hasEndAlone : List ℕ → ℕ → Bool
 hasEndAlone w n = not (hasEnd w n) || all (λ m. not (isTwin w n m)) (upFrom 1 (n - 1))
 
--- "Sound means: started at most 64; counter at most the number of committed actions; .."
+-- the clauses that speak of one started action
+unfoldable pub isSoundAction : List ℕ → ℕ → Bool
+isSoundAction w n =
+    hasState w n
+    && hasParentBelow w n
+    && hasParentAlive w n
+    && hasReadInTime w n
+    && hasEndInTime w n
+    && hasEndAlone w n
+
+-- "Sound means: started at most 64; counter at most the number of committed actions; each started action's .."
 unfoldable pub sound : List ℕ → Bool
 sound w =
     eqb (length w) tableLength
     && leb (started w) mostActions
-    && all (hasState w) (actions w)
     && leb (counter w) (count (isCommitted w) (actions w))
-    && all (hasParentBelow w) (actions w)
-    && all (hasParentAlive w) (actions w)
-    && all (hasReadInTime w) (actions w)
-    && all (hasEndInTime w) (actions w)
-    && all (hasEndAlone w) (actions w)
+    && all (isSoundAction w) (actions w)
 
 -- n is the number of a started action
 abbrev pub IsStarted : List ℕ → ℕ → Type 0
@@ -60,8 +65,8 @@ IsStarted w n = (1 ≤ n) × (n ≤ started w)
 pub record Sound (w : List ℕ) : Type 0 where
   pub long : length w ≡ tableLength
   pub few : started w ≤ mostActions
-  pub states : (n : ℕ) → IsStarted w n → hasState w n ≡ true
   pub counted : counter w ≤ count (isCommitted w) (actions w)
+  pub states : (n : ℕ) → IsStarted w n → hasState w n ≡ true
   pub below : (n : ℕ) → IsStarted w n → parentOf w n < n
   pub alive : (n : ℕ) → IsStarted w n → isLive w n ≡ true → (parentOf w n ≡ 0) ⊎ (isLive w (parentOf w n) ≡ true)
   pub reads : (n k : ℕ) → IsStarted w n → isLive w n ≡ true → k < accountCount → hasRead w n k ≡ true → readTime w n k ≤ counter w

@@ -11,7 +11,7 @@ use Rattle.rules.specs.Card.{accountCount, cardLength, baseLength, shado
 use Rattle.rules.specs.Table.{mostActions, started, isLive, hasLiveChild}
 use Rattle.rules.specs.Sound.{sound}
 use Rattle.rules.specs.Event.{Event, isStart, isRead, isWrite, isCommit}
-use Rattle.rules.specs.Cause.{isStoreMisfit, isCodeUnknown, isNumberUnknown, isNotLive, isTableFull, isAccountUnknown, isCardMisfit, isChildLive, Cause, lowest, causesOf, causeOf}
+use Rattle.rules.specs.Cause.{isStoreMisfit, isCodeUnknown, isNumberUnknown, isNotLive, isTableFull, isAccountUnknown, isCardMisfit, isChildLive, Cause, lowest, storeCauses, eventCauses, causesOf, causeOf}
 use Rattle.rules.proofs.Laws.Tests.{test, not-holds, not-fails, and-holds, and-fails, and-fails-left, or-fails, eqb-holds, nonzero, leb-holds, leb-fails, ltb-fails}
 
 -- ---- what each cause denies
@@ -63,7 +63,7 @@ not-given false c rest z = (refl, z)
 
 module _ (w base shadow : List ℕ) (e : Event) where
   pub allowed : causeOf w base shadow e ≡ 0 → Allowed w base shadow e
-  unfolding causeOf causesOf
+  unfolding causeOf causesOf storeCauses eventCauses
   allowed none₁ =
       let (misfit, none₂) = not-given (isStoreMisfit base shadow) _ _ none₁ in
       let (unsound, none₃) = not-given (not (sound w)) _ _ none₂ in
@@ -89,7 +89,7 @@ module _ (w base shadow : List ℕ) (e : Event) where
       }
 
   pub allowed-none : Allowed w base shadow e → causeOf w base shadow e ≡ 0
-  unfolding causeOf causesOf
+  unfolding causeOf causesOf storeCauses eventCauses
   allowed-none a =
       rw (
         stores-fit base shadow .1 (a .baseFits, a .shadowFits),
@@ -136,7 +136,7 @@ given-lowest t (d ∷ ds) up c h p =
 
 module _ (w base shadow : List ℕ) (e : Event) where
   causes-rise : Rising 0 (causesOf w base shadow e)
-  unfolding causesOf
+  unfolding causesOf storeCauses eventCauses
   causes-rise =
       (omega arith, (omega arith, (omega arith, (omega arith, (omega arith, (omega arith, (omega arith, (omega arith, (omega arith, tt)))))))))
 

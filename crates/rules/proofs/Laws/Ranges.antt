@@ -1,7 +1,8 @@
 -- What is asked of each number of a run, as facts about the numbers from a on, below a + n. Assumes nothing.
-use Prim.Native.Nat.{ℕ, zero, suc, _+_, _≤_, _<_}
+use Prim.Native.Nat.{ℕ, zero, suc, _+_, _-_, _≤_, _<_}
 use native.Mathlib.Nat.{zero-add, add-suc, suc-add, add-zero}
 use native.Mathlib.Omega.{arith}
+use native.Mathlib.Numerals.{add-one}
 use native.Mathlib.Decide.{ℕ-discrete}
 use mathlib.Core.Path.{_≡_, refl, sym, ap, ap₂, _∙_}
 use mathlib.Core.Logic.{_⊎_, inl, inr, ⊎-elim, _≢_}
@@ -227,3 +228,51 @@ pub each-puts :
     (s : A) → P s → cell (each f (upFrom a n) s) ≡ v
 each-puts P cell v f a n k keeps puts other =
     each-changes P cell (λ _. v) f a n k keeps puts (λ x h ne s _. other x h ne s)
+
+-- ---- a run taken from its front, as a loop does: what is left from a on, below an end
+
+pub left-next : (a end : ℕ) → a < end → upFrom a (end - a) ≡ a ∷ upFrom (a + 1) (end - (a + 1))
+unfolding upFrom
+left-next a end h =
+    let e : end - a ≡ suc (end - (a + 1)) = omega arith in
+    rw (e, add-one a) refl
+
+pub left-done : (a end : ℕ) → end ≤ a → upFrom a (end - a) ≡ []
+unfolding upFrom
+left-done a end h = let e : end - a ≡ 0 = omega arith in rw e
+
+module _ (f : ℕ → Bool) (a end : ℕ) where
+  -- the first of what is left decides, or it is passed over
+  pub any-left-here : a < end → f a ≡ true → any f (upFrom a (end - a)) ≡ true
+  unfolding any
+  any-left-here h p = rw (left-next a end h, p)
+
+  pub any-left-next : a < end → f a ≡ false → any f (upFrom a (end - a)) ≡ any f (upFrom (a + 1) (end - (a + 1)))
+  unfolding any
+  any-left-next h p = rw (left-next a end h, p)
+
+  pub any-left-done : end ≤ a → any f (upFrom a (end - a)) ≡ false
+  unfolding any
+  any-left-done h = rw (left-done a end h)
+
+  pub all-left-here : a < end → f a ≡ false → all f (upFrom a (end - a)) ≡ false
+  unfolding all
+  all-left-here h p = rw (left-next a end h, p)
+
+  pub all-left-next : a < end → f a ≡ true → all f (upFrom a (end - a)) ≡ all f (upFrom (a + 1) (end - (a + 1)))
+  unfolding all
+  all-left-next h p = rw (left-next a end h, p)
+
+  pub all-left-done : end ≤ a → all f (upFrom a (end - a)) ≡ true
+  unfolding all
+  all-left-done h = rw (left-done a end h)
+
+pub each-left-next :
+    {A : Type 0} (f : ℕ → A → A) (a end : ℕ) (s : A) → a < end →
+    each f (upFrom a (end - a)) s ≡ each f (upFrom (a + 1) (end - (a + 1))) (f a s)
+unfolding each
+each-left-next f a end s h = rw (left-next a end h)
+
+pub each-left-done : {A : Type 0} (f : ℕ → A → A) (a end : ℕ) (s : A) → end ≤ a → each f (upFrom a (end - a)) s ≡ s
+unfolding each
+each-left-done f a end s h = rw (left-done a end h)

@@ -14,9 +14,6 @@ use Rattle.rules.proofs.Laws.Words.{withWord-length, word-same, word-ot
 pub account-within : {k : ℕ} → k < accountCount → Within 0 accountCount k
 account-within h = omega arith
 
-within-account : {k : ℕ} → Within 0 accountCount k → k < accountCount
-within-account h = omega arith
-
 module _ (w : List ℕ) (n : ℕ) (reads writes : ℕ → ℕ) where
   put : ℕ → List ℕ → List ℕ
   put k now = withWrite (withRead now n k (reads k)) n k (writes k)

@@ -50,10 +50,6 @@ test false = inr refl
 pub not-both : {b : Bool} → b ≡ true → b ≡ false → ⊥
 not-both p q = true≢false (sym p ∙ q)
 
-pub true-of-not-false : (b : Bool) → (b ≡ false → ⊥) → b ≡ true
-true-of-not-false true h = refl
-true-of-not-false false h = absurd (h refl)
-
 pub false-of-not-true : (b : Bool) → (b ≡ true → ⊥) → b ≡ false
 false-of-not-true true h = absurd (h refl)
 false-of-not-true false h = refl
@@ -63,6 +59,11 @@ pub cond-holds :
     {A : Type 0} (P : A → Type 0) (b : Bool) {x y : A} → (b ≡ true → P x) → (b ≡ false → P y) → P (cond b x y)
 cond-holds P true p q = p refl
 cond-holds P false p q = q refl
+
+-- where both outcomes are the same the test makes no difference
+pub cond-same : {A : Type 0} (b : Bool) (x : A) → cond b x x ≡ x
+cond-same true x = refl
+cond-same false x = refl
 
 -- ---- what a test says, both ways
 

@@ -26,7 +26,7 @@ pub record Judged (w : List ℕ) (n : ℕ) : Type 0 where
   pub alive : isLive w n ≡ true
   pub childless : hasLiveChild w n ≡ false
 
-no-live-child : (w : List ℕ) (n : ℕ) → hasLiveChild w n ≡ false → (m : ℕ) → IsStarted w m → isLive w m ≡ true → parentOf w m ≡ n → ⊥
+pub no-live-child : (w : List ℕ) (n : ℕ) → hasLiveChild w n ≡ false → (m : ℕ) → IsStarted w m → isLive w m ≡ true → parentOf w m ≡ n → ⊥
 unfolding hasLiveChild actions
 no-live-child w n none m h l e =
     not-both (and-both (eq-eqb _ _ e) l) (not-any-at (isLiveChildOf w n) 1 (started w) m none (omega arith))

@@ -11,7 +11,7 @@ use lib.ListN.{length}
 use Rattle.rules.specs.Range.{all, count}
 use Rattle.rules.specs.Card.{accountCount, accounts}
 use Rattle.rules.specs.Table.{hasEnd, tableLength, mostActions, started, counter, parentOf, endTime, hasRead, readTime, isLive, isCommitted, actions}
-use Rattle.rules.specs.Sound.{hasState, hasParentBelow, hasParentAlive, hasReadInTime, hasEndInTime, isTwin, hasEndAlone, sound, IsStarted, Sound}
+use Rattle.rules.specs.Sound.{hasState, hasParentBelow, hasParentAlive, hasReadInTime, hasEndInTime, isTwin, hasEndAlone, isSoundAction, sound, IsStarted, Sound}
 use Rattle.rules.proofs.Laws.Tests.{and-left, and-right, and-both, or-cases, or-inl, or-inr, test, implied, implies, not-both, false-of-not-true}
 use Rattle.rules.proofs.Laws.Ranges.{Within, all-at, all-of}
 
@@ -105,27 +105,42 @@ module _ (w : List ℕ) (n : ℕ) where
 
 -- ---- the whole
 
-nine-hold :
-    (a b c d e f g h i : Bool) → (a && b && c && d && e && f && g && h && i) ≡ true →
-    (a ≡ true) × (b ≡ true) × (c ≡ true) × (d ≡ true) × (e ≡ true) × (f ≡ true) × (g ≡ true) × (h ≡ true) × (i ≡ true)
-nine-hold a b c d e f g h i t =
-    let t8 = and-left (a && b && c && d && e && f && g && h) i t in
-    let t7 = and-left (a && b && c && d && e && f && g) h t8 in
-    let t6 = and-left (a && b && c && d && e && f) g t7 in
-    let t5 = and-left (a && b && c && d && e) f t6 in
-    let t4 = and-left (a && b && c && d) e t5 in
-    let t3 = and-left (a && b && c) d t4 in
-    let t2 = and-left (a && b) c t3 in (
-      and-left a b t2,
-      and-right a b t2,
-      and-right (a && b) c t3,
-      and-right (a && b && c) d t4,
-      and-right (a && b && c && d) e t5,
-      and-right (a && b && c && d && e) f t6,
-      and-right (a && b && c && d && e && f) g t7,
-      and-right (a && b && c && d && e && f && g) h t8,
-      and-right (a && b && c && d && e && f && g && h) i t,
-    )
+-- the clauses of one action, as facts
+record SoundAction (w : List ℕ) (n : ℕ) : Type 0 where
+  state : hasState w n ≡ true
+  below : hasParentBelow w n ≡ true
+  alive : hasParentAlive w n ≡ true
+  reads : hasReadInTime w n ≡ true
+  end : hasEndInTime w n ≡ true
+  alone : hasEndAlone w n ≡ true
+
+module _ (w : List ℕ) (n : ℕ) where
+  action-facts : isSoundAction w n ≡ true → SoundAction w n
+  unfolding isSoundAction
+  action-facts t =
+      let a = hasState w n in
+      let b = hasParentBelow w n in
+      let c = hasParentAlive w n in
+      let d = hasReadInTime w n in
+      let e = hasEndInTime w n in
+      let f = hasEndAlone w n in
+      let t5 = and-left (a && b && c && d && e) f t in
+      let t4 = and-left (a && b && c && d) e t5 in
+      let t3 = and-left (a && b && c) d t4 in
+      let t2 = and-left (a && b) c t3 in
+      record {
+        state = and-left a b t2;
+        below = and-right a b t2;
+        alive = and-right (a && b) c t3;
+        reads = and-right (a && b && c) d t4;
+        end = and-right (a && b && c && d) e t5;
+        alone = and-right (a && b && c && d && e) f t;
+      }
+
+  action-tested : SoundAction w n → isSoundAction w n ≡ true
+  unfolding isSoundAction
+  action-tested s =
+      and-both (and-both (and-both (and-both (and-both (s .state) (s .below)) (s .alive)) (s .reads)) (s .end)) (s .alone)
 
 -- of two numbers one is the lower, or they are one
 by-order : (P : Type 0) (m n : ℕ) → (m < n → P) → (n < m → P) → (m ≡ n → P) → P
@@ -138,40 +153,47 @@ module _ (w : List ℕ) where
   pub facts : sound w ≡ true → Sound w
   unfolding sound ParentAlive ReadsInTime EndInTime EndAlone
   facts t =
-      let clause =
-      nine-hold (eqb (length w) tableLength) (leb (started w) mostActions) (all (hasState w) (actions w))
-      (leb (counter w) (count (isCommitted w) (actions w))) (all (hasParentBelow w) (actions w))
-      (all (hasParentAlive w) (actions w)) (all (hasReadInTime w) (actions w)) (all (hasEndInTime w) (actions w))
-      (all (hasEndAlone w) (actions w)) t in
+      let long = eqb (length w) tableLength in
+      let few = leb (started w) mostActions in
+      let counted = leb (counter w) (count (isCommitted w) (actions w)) in
+      let each = all (isSoundAction w) (actions w) in
+      let t3 = and-left (long && few && counted) each t in
+      let t2 = and-left (long && few) counted t3 in
+      let of : (n : ℕ) → IsStarted w n → SoundAction w n =
+      λ n h. action-facts w n (all-started w (isSoundAction w) (and-right (long && few && counted) each t) n h) in
       record {
-        long = eqb-true _ _ (clause .0);
-        few = leb-true _ _ (clause .1);
-        states = all-started w (hasState w) (clause .2);
-        counted = leb-true _ _ (clause .3);
-        below = λ n h. ltb-true _ _ (all-started w (hasParentBelow w) (clause .4) n h);
-        alive = λ n h. alive-fact w n (all-started w (hasParentAlive w) (clause .5) n h);
-        reads = λ n k h p. reads-fact w n (all-started w (hasReadInTime w) (clause .6) n h) p k;
-        ends = λ n h. end-fact w n (all-started w (hasEndInTime w) (clause .7) n h);
+        long = eqb-true _ _ (and-left long few t2);
+        few = leb-true _ _ (and-right long few t2);
+        counted = leb-true _ _ (and-right (long && few) counted t3);
+        states = λ n h. of n h .state;
+        below = λ n h. ltb-true _ _ (of n h .below);
+        alive = λ n h. alive-fact w n (of n h .alive);
+        reads = λ n k h p. reads-fact w n (of n h .reads) p k;
+        ends = λ n h. end-fact w n (of n h .end);
         alone =
             λ n m hn hm p q parents ends.
             by-order (m ≡ n) m n
-            (λ lt. absurd (alone-fact w n (all-started w (hasEndAlone w) (clause .8) n hn) m (hm .0, lt) p q parents ends))
-            (λ gt. absurd (alone-fact w m (all-started w (hasEndAlone w) (clause .8) m hm) n (hn .0, gt) q p (sym parents) (sym ends)))
+            (λ lt. absurd (alone-fact w n (of n hn .alone) m (hm .0, lt) p q parents ends))
+            (λ gt. absurd (alone-fact w m (of m hm .alone) n (hn .0, gt) q p (sym parents) (sym ends)))
             (λ e. e);
       }
 
+  tested-action : Sound w → (n : ℕ) → IsStarted w n → SoundAction w n
+  unfolding ParentAlive ReadsInTime EndInTime EndAlone
+  tested-action s n h =
+      record {
+        state = s .states n h;
+        below = lt-ltb _ _ (s .below n h);
+        alive = alive-test w n (s .alive n h);
+        reads = reads-test w n (λ p k. s .reads n k h p);
+        end = end-test w n (s .ends n h);
+        alone =
+            alone-test w n (λ m lower p q parents ends. let same = s .alone n m h (omega arith) p q parents ends in omega arith);
+      }
+
   pub tested : Sound w → sound w ≡ true
-  unfolding sound ParentAlive ReadsInTime EndInTime EndAlone
+  unfolding sound
   tested s =
-      and-both (and-both (and-both (and-both (and-both (and-both (and-both (and-both
-      (eq-eqb _ _ (s .long))
-      (le-leb _ _ (s .few)))
-      (started-all w _ (s .states)))
-      (le-leb _ _ (s .counted)))
-      (started-all w _ (λ n h. lt-ltb _ _ (s .below n h))))
-      (started-all w _ (λ n h. alive-test w n (s .alive n h))))
-      (started-all w _ (λ n h. reads-test w n (λ p k. s .reads n k h p))))
-      (started-all w _ (λ n h. end-test w n (s .ends n h))))
-      (started-all w _
-      (λ n h. alone-test w n
-      (λ m lower p q parents ends. let same = s .alone n m h (omega arith) p q parents ends in omega arith)))
+      and-both
+      (and-both (and-both (eq-eqb _ _ (s .long)) (le-leb _ _ (s .few))) (le-leb _ _ (s .counted)))
+      (started-all w _ (λ n h. action-tested w n (tested-action s n h)))

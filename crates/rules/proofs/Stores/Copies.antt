@@ -3,7 +3,7 @@ use Prim.Native.Nat.{ℕ, _+_, _-_, _*_, _≤_, _<_}
 use native.Mathlib.Omega.{arith}
 use native.Mathlib.Decide.{decLt}
 use mathlib.Core.Path.{_≡_, refl, _∙_}
-use mathlib.Core.Logic.{inl, inr, _≢_}
+use mathlib.Core.Logic.{_⊎_, inl, inr, _≢_}
 use mathlib.Core.Bool.{Bool, true, false, cond}
 use mathlib.Core.List.{List}
 use lib.ListN.{length, getD}
@@ -29,11 +29,30 @@ base-line base e = record { first = 0; stands = λ k. omega arith; inside = omeg
 pub shadow-line : (shadow : List ℕ) (n : ℕ) → length shadow ≡ shadowLength → n ≤ mostActions → Line (shadowPlace n) shadow
 shadow-line shadow n e few = record { first = 1024 * (n - 1); stands = λ k. refl; inside = omega arith }
 
+-- the cards of two actions, or for two accounts, share no byte
+pub shadow-apart :
+    (n m k j : ℕ) → 1 ≤ n → 1 ≤ m → k < accountCount → j < accountCount → (m ≢ n) ⊎ (j ≢ k) →
+    Apart (shadowPlace n k) (shadowPlace m j)
+shadow-apart n m k j n-action m-action k-account j-account differ =
+    by-order (decLt (nth n k) (nth m j)) (nths-differ differ)
+  where
+    -- how many cards stand before action x's card for account i
+    nth : ℕ → ℕ → ℕ
+    nth x i = 32 * (x - 1) + i
+
+    nths-differ : (m ≢ n) ⊎ (j ≢ k) → nth n k ≢ nth m j
+    nths-differ (inl ne) e = ne (omega arith)
+    nths-differ (inr ne) e = ne (omega arith)
+
+    by-order : Dec (nth n k < nth m j) → nth n k ≢ nth m j → Apart (shadowPlace n k) (shadowPlace m j)
+    by-order (yes lower) ne = inr (omega arith)
+    by-order (no higher) ne = inl (omega arith)
+
 module _ {place : ℕ → ℕ} {store : List ℕ} (line : Line place store) where
   pub line-fits : (k : ℕ) → k < accountCount → Fits store (place k)
   line-fits k h = omega (arith, line .stands k)
 
-  line-apart : (j k : ℕ) → j ≢ k → Apart (place j) (place k)
+  pub line-apart : (j k : ℕ) → j ≢ k → Apart (place j) (place k)
   line-apart j k ne = by-order (decLt j k)
     where
       by-order : Dec (j < k) → Apart (place j) (place k)

@@ -11,7 +11,7 @@ use borrow.Author.Tests.{eq-eqb, ne-eqb}
 use Rattle.rules.specs.Card.{cardLength}
 use Rattle.rules.specs.Table.{mostActions}
 use Rattle.rules.specs.Event.{readBy}
-use Rattle.rules.specs.Cause.{causesOf, causeOf}
+use Rattle.rules.specs.Cause.{storeCauses, eventCauses, causesOf, causeOf}
 use Rattle.rules.specs.Nearest.{nearest}
 use Rattle.rules.specs.Look.{lookCause, Part, emptyPart, cardPart, look, held}
 use Rattle.rules.proofs.Laws.Tests.{cond-holds}
@@ -24,7 +24,7 @@ use Rattle.rules.proofs.Stores.Copies.{base-line, shadow-line, line-fit
 pub look-refused-as-read :
     (w base shadow : List ℕ) (n k : ℕ) (card : List ℕ) →
     lookCause w base shadow n k ≡ causeOf w base shadow (record { code = 2; number = n; account = k; card = card })
-unfolding lookCause causeOf causesOf
+unfolding lookCause causeOf causesOf storeCauses eventCauses
 look-refused-as-read w base shadow n k card = refl
 
 -- "A refused look also hands back the empty part at the start of the base store."

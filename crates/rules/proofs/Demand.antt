@@ -1,0 +1,16 @@
+-- The engine's events as the steps of which demand 3's proof speaks: what it sees of them, why a commit may pass, and
+-- demand 3 itself.
+pub mod See
+pub mod Seeing
+pub mod Views
+pub mod Starts
+pub mod Reads
+pub mod Writes
+pub mod Drops
+pub mod Passes
+pub mod CommitTable
+pub mod CommitCards
+pub mod CommitChange
+pub mod CommitStale
+pub mod Collected
+pub mod Theorem

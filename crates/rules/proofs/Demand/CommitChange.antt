@@ -1,0 +1,65 @@
+-- A commit as demand 3's proof sees it: the effects of the one that commits are laid on its parent, which has its reads then.
+-- Request 3 leaves reads out of the parent's set that the parent's own card hides. Assumes nothing.
+use Prim.Native.Nat.{ℕ}
+use native.Mathlib.Omega.{arith}
+use mathlib.Core.Path.{_≡_, _∙_}
+use mathlib.Core.Logic.{inl}
+use mathlib.Core.List.{List}
+use Rattle.rules.specs.Table.{parentOf}
+use Rattle.rules.specs.Step.{State, commitTable, committedUnder}
+use Rattle.rules.proofs.Sound.Changes.{change-keeps-sound}
+use Rattle.rules.proofs.Sound.Judging.{Judged}
+use Rattle.rules.proofs.Serial.Change.{Change}
+use Rattle.rules.proofs.Serial.Events.{Commit}
+use Rattle.rules.proofs.Demand.See.{effectOf, see}
+use Rattle.rules.proofs.Demand.Seeing.{Proper, alive-started, live-alive, read-account, account-read, see-tree}
+use Rattle.rules.proofs.Demand.Views.{was-alive, same-parent}
+use Rattle.rules.proofs.Demand.CommitTable.{entry-has-read, table-change, still-alive-other, read-joined, read-kept}
+use Rattle.rules.proofs.Demand.CommitCards.{commit-base-length, commit-shadow-length, commit-base-kept, commit-base-laid, commit-effect-kept, commit-effect-laid}
+
+module _ {s : State} (proper : Proper s) {n p : ℕ} (judged : Judged (s .table) n) (under : parentOf (s .table) n ≡ p) where
+  -- the table after the commit
+  abbrev table′ : List ℕ
+  table′ = commitTable (s .table) n p
+
+  committed-proper : Proper (committedUnder s n p)
+  unfolding committedUnder
+  committed-proper =
+      record {
+        sound = change-keeps-sound (s .table) table′ n (proper .sound) (table-change proper judged under);
+        baseFits = commit-base-length proper judged under ∙ proper .baseFits;
+        shadowFits = commit-shadow-length proper judged under ∙ proper .shadowFits;
+      }
+
+  see-change : Change (see s) (see (committedUnder s n p)) p (effectOf s n)
+  unfolding committedUnder
+  see-change =
+      record {
+        tree = see-tree s proper;
+        tree′ = see-tree (committedUnder s n p) committed-proper;
+        parent-kept = λ X x. same-parent (table-change proper judged under) X (x .before);
+        reads-kept = λ X k x has.
+            account-read table′ X k (read-account (s .table) X k has)
+            (entry-has-read table′ X k (read-kept proper judged under k X (x .before) (x .after) has .0));
+        eff-kept = λ X k x other.
+            commit-effect-kept proper judged under X k (alive-started (s .table) X (x .before))
+            (still-alive-other proper judged under X (x .after)) other;
+        eff-laid = λ X k x e.
+            let action = alive-started (s .table) X (x .before) in
+            rw e (commit-effect-laid proper judged under k (λ z. omega arith));
+        base-kept = commit-base-kept proper judged under;
+        base-laid = commit-base-laid proper judged under;
+      }
+
+  pub see-commit : Commit (see s) (see (committedUnder s n p)) n p
+  unfolding committedUnder
+  see-commit =
+      record {
+        change = see-change;
+        nobody-new = was-alive (table-change proper judged under);
+        committer-live = live-alive (s .table) n (judged .own) (judged .alive);
+        committer-under = under;
+        reads-noted = λ k l′ has.
+            inl (account-read table′ p k (read-account (s .table) n k has)
+            (entry-has-read table′ p k (read-joined proper judged under k l′ has .0)));
+      }

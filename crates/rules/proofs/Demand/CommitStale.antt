@@ -1,0 +1,118 @@
+-- What a commit does to stale reads: those there were stay, those of the one that commits pass to its parent, and what it
+-- changes makes every earlier read of it stale. Requests 7, 8 and 9 change what makes a read stale. Assumes nothing.
+use Prim.Native.Nat.{ℕ, _+_, _≤_, _<_}
+use native.Mathlib.Omega.{arith}
+use native.Mathlib.Nat.{le-of-eq}
+use mathlib.Core.Path.{_≡_, sym, _∙_}
+use mathlib.Core.Logic.{_⊎_, inl, inr, ⊎-elim, _≢_}
+use mathlib.Core.Bool.{true}
+use mathlib.Core.Option.{none}
+use mathlib.Core.List.{List}
+use borrow.Author.Tests.{eq-eqb}
+use Rattle.rules.specs.Card.{accountCount, accounts}
+use Rattle.rules.specs.Table.{width, word, counter, parentOf, endTime, readEntry, writeField, hasWritten, hasWrites, isCommitted, isRecordOf}
+use Rattle.rules.specs.Sound.{IsStarted}
+use Rattle.rules.specs.Step.{State, commitTime, commitTable, committedUnder}
+use Rattle.rules.proofs.Laws.Tests.{and-both}
+use Rattle.rules.proofs.Laws.Ranges.{any-at}
+use Rattle.rules.proofs.Laws.Sets.{account-within}
+use Rattle.rules.proofs.Sound.Changes.{writes-agree, live-uncommitted}
+use Rattle.rules.proofs.Sound.Committing.{commit-parent, commit-keeps-row, commit-keeps-sets, commit-end}
+use Rattle.rules.proofs.Sound.Judging.{Judged}
+use Rattle.rules.proofs.Serial.State.{HasRead}
+use Rattle.rules.proofs.Serial.Change.{Stays}
+use Rattle.rules.proofs.Serial.Stale.{AtCommit}
+use Rattle.rules.proofs.Demand.See.{effectOf, see, Stale}
+use Rattle.rules.proofs.Demand.Seeing.{Proper, alive-started, alive-live, read-account, read-entered, effect-unwritten, effect-no-account}
+use Rattle.rules.proofs.Demand.Views.{RowKept, stale-stays}
+use Rattle.rules.proofs.Demand.CommitTable.{NoLater, table-change, number-few, parent-below, now-committed, read-joined, read-kept}
+use Rattle.rules.proofs.Demand.CommitCards.{by-write-set}
+
+module _ {s : State} (proper : Proper s) {n p : ℕ} (judged : Judged (s .table) n) (under : parentOf (s .table) n ≡ p) where
+  -- the state and the table after the commit
+  abbrev after : State
+  after = committedUnder s n p
+
+  abbrev table′ : List ℕ
+  table′ = commitTable (s .table) n p
+
+  -- ---- a read that was stale
+
+  -- a committed action isn't the one that commits, nor its parent, which is the store or live
+  committed-row-kept : (m : ℕ) → IsStarted (s .table) m → isCommitted (s .table) m ≡ true → RowKept (s .table) table′ m
+  committed-row-kept m begun done g h =
+      commit-keeps-row (s .table) n p (judged .own .0) m g h (begun .0) not-committing (inl not-parent)
+    where
+      not-committing : m ≢ n
+      not-committing e = live-uncommitted (s .table) n (judged .alive) (rw e at done)
+
+      not-parent : m ≢ p
+      not-parent e =
+          ⊎-elim
+          (λ top. omega (arith, begun, rw under at top))
+          (λ l. live-uncommitted (s .table) p (rw under at l) (rw e at done))
+          (proper .sound .alive n (judged .own) (judged .alive))
+
+  stale-kept :
+      {X Y Q k : ℕ} → k < accountCount → NoLater (readEntry table′ Y k) (readEntry (s .table) X k) →
+      Stale s X Q k → Stale after Y Q k
+  unfolding committedUnder
+  stale-kept account no-later =
+      stale-stays s after account (le-of-eq (sym (table-change proper judged under .sameStarted))) committed-row-kept (omega arith)
+
+  -- ---- a read that is stale now: n is a record of p then, with an end time above every read of a live action
+
+  module _ (k : ℕ) (account : k < accountCount) (written : hasWritten (s .table) n k ≡ true) where
+    has-writes : hasWrites (s .table) n ≡ true
+    unfolding hasWrites accounts
+    has-writes = any-at (hasWritten (s .table) n) 0 accountCount k (account-within account) written
+
+    own-set-kept : (g : ℕ) → 3 ≤ g → g < width → word table′ n g ≡ word (s .table) n g
+    own-set-kept =
+        let below = parent-below proper judged under in
+        commit-keeps-sets (s .table) n p (judged .own .0) (λ e. omega arith)
+
+    now-record : isRecordOf table′ p n ≡ true
+    unfolding isRecordOf
+    now-record =
+        and-both (eq-eqb _ _ (commit-parent (s .table) n p (judged .own .0) n ∙ under))
+        (and-both (now-committed proper judged under)
+        (writes-agree (s .table) table′ n (λ j h. own-set-kept (writeField j) (omega arith) (omega arith)) ∙ has-writes))
+
+    now-ended : endTime table′ n ≡ counter (s .table) + 1
+    unfolding commitTime
+    now-ended = commit-end (s .table) n p (judged .own .0) (proper .sound .long) (number-few proper judged under) ∙ rw has-writes
+
+    now-stale : (X : ℕ) → Stays (see s) (see after) X → HasRead (see s) X k → Stale after X p k
+    unfolding committedUnder
+    now-stale X x has =
+        let begun = alive-started (s .table) X (x .before) in
+        let in-time = proper .sound .reads X k begun (alive-live (s .table) X (x .before)) account (read-entered (s .table) X k has) in
+        record {
+          holder = n;
+          begun = rw (table-change proper judged under .sameStarted) (judged .own);
+          isRecord = now-record;
+          written = rw (own-set-kept (writeField k) (omega arith) (omega arith)) written;
+          later = rw now-ended (omega (arith, read-kept proper judged under k X (x .before) (x .after) has));
+        }
+
+  no-effect-or-stale :
+      (k : ℕ) → (effectOf s n k ≡ none) ⊎ ((X : ℕ) → Stays (see s) (see after) X → HasRead (see s) X k → Stale after X p k)
+  no-effect-or-stale k =
+      by-write-set (s .table) n k
+      (λ account written. inr (now-stale k account written))
+      (λ account unwritten. inl (effect-unwritten s n k account unwritten))
+      (λ beyond. inl (effect-no-account s n k beyond))
+
+  -- ---- what the proof asks of a commit's stale reads
+
+  pub stale-at-commit : AtCommit (see s) (see (committedUnder s n p)) (Stale s) (Stale (committedUnder s n p)) n p
+  unfolding committedUnder
+  stale-at-commit =
+      record {
+        old = λ X Q k x has seen.
+            stale-kept (read-account (s .table) X k has) (read-kept proper judged under k X (x .before) (x .after) has);
+        now = no-effect-or-stale;
+        join = λ Q k l′ has shown seen.
+            stale-kept (read-account (s .table) n k has) (read-joined proper judged under k l′ has);
+      }

@@ -1,0 +1,89 @@
+-- A start as demand 3's proof sees it: the next number is live and has no effect, and nobody else has changed. Request 8 gives
+-- numbers again, and so asks more of a start than that it leaves the other rows as they were. Assumes nothing.
+use Prim.Native.Nat.{ℕ, _+_, _≤_, _<_}
+use native.Mathlib.Omega.{arith}
+use mathlib.Core.Path.{_≡_, ap}
+use mathlib.Core.Logic.{_≢_}
+use mathlib.Core.Bool.{true, not}
+use mathlib.Core.Option.{none}
+use mathlib.Core.List.{List}
+use lib.Dec.{eqb}
+use borrow.Author.Tests.{eq-eqb}
+use Rattle.rules.specs.Table.{mostActions, started, parentField, stateField, readField, writeField, isLive}
+use Rattle.rules.specs.Sound.{IsStarted}
+use Rattle.rules.specs.Step.{State, withTable, startTable, start}
+use Rattle.rules.proofs.Sound.Starting.{start-keeps-row, start-started, start-state, start-write, start-keeps-sound}
+use Rattle.rules.proofs.Serial.Events.{Start}
+use Rattle.rules.proofs.Serial.Stale.{Old}
+use Rattle.rules.proofs.Demand.See.{isAlive, effectOf, see, Stale}
+use Rattle.rules.proofs.Demand.Seeing.{Proper, alive-started, alive-live, live-alive, effect-unwritten, effect-no-account, by-account}
+use Rattle.rules.proofs.Demand.Views.{RowKept, Keeps, keeps-still, keeps-old}
+
+module _
+    (s : State) (proper : Proper s) (p : ℕ) (known : p ≤ started (s .table)) (alive : 1 ≤ p → isLive (s .table) p ≡ true)
+    (room : started (s .table) < mostActions) where
+  abbrev before : List ℕ
+  before = s .table
+
+  abbrev after : List ℕ
+  after = startTable before p
+
+  -- the number that the start gives
+  abbrev next : ℕ
+  next = started before + 1
+
+  last-start : started after ≡ next
+  last-start = start-started before p (proper .sound .long) room
+
+  -- who had started before keeps its row
+  row-kept : (m : ℕ) → IsStarted before m → RowKept before after m
+  row-kept m h g inside = start-keeps-row before p m g inside (h .0) (λ z. omega arith)
+
+  start-keeps : Keeps before after
+  start-keeps =
+      record {
+        noFewer = rw last-start (omega arith);
+        parents = λ m h. row-kept m h parentField (omega arith);
+        writes = λ m k h account. row-kept m h (writeField k) (omega arith);
+        reads = λ m k h account has. row-kept m h (readField k) (omega arith);
+        rows = λ m h done. row-kept m h;
+      }
+
+  start-keeps-proper : Proper (withTable s after)
+  start-keeps-proper =
+      record {
+        sound = start-keeps-sound before p (proper .sound) room known alive;
+        baseFits = proper .baseFits;
+        shadowFits = proper .shadowFits;
+      }
+
+  others-were-alive : (X : ℕ) → isAlive after X ≡ true → X ≢ next → isAlive before X ≡ true
+  others-were-alive X l other =
+      let begun : IsStarted before X = omega (arith, alive-started after X l, last-start) in
+      live-alive before X begun (rw (row-kept X begun stateField (omega arith)) at (alive-live after X l))
+
+  next-alive : isAlive after next ≡ true
+  next-alive =
+      live-alive after next (omega (arith, last-start)) (eq-eqb _ _ (start-state before p (proper .sound .long) room))
+
+  next-no-effect : (k : ℕ) → effectOf (withTable s after) next k ≡ none
+  next-no-effect k =
+      by-account k
+      (λ account.
+      effect-unwritten (withTable s after) next k account
+      (ap (λ entry. not (eqb entry 0)) (start-write before p (proper .sound .long) room k account)))
+      (effect-no-account (withTable s after) next k)
+
+  pub start-starts : Start (see s) (see (start s p .after)) (started (s .table) + 1)
+  unfolding start
+  start-starts =
+      record {
+        still = keeps-still s after start-keeps proper start-keeps-proper;
+        nobody-else-new = others-were-alive;
+        started-live = next-alive;
+        started-empty = next-no-effect;
+      }
+
+  pub start-old : Old (see s) (see (start s p .after)) (Stale s) (Stale (start s p .after))
+  unfolding start
+  start-old = keeps-old s after start-keeps

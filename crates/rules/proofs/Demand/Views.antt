@@ -1,0 +1,125 @@
+-- What makes two states show the same: effects that stay, and reads that stay stale; and what an event must keep of the table,
+-- where it touches no store, to lay nothing on anybody. Requests 7 and 9 change what makes a read stale. Assumes nothing.
+use Prim.Native.Nat.{ℕ, _-_, _≤_, _<_}
+use native.Mathlib.Nat.{le-of-eq}
+use native.Mathlib.Omega.{arith}
+use mathlib.Core.Path.{_≡_, refl, sym, ap, _∙_}
+use mathlib.Core.Bool.{true}
+use mathlib.Core.List.{List}
+use Rattle.rules.specs.Card.{accountCount, shadowPlace, cardAt}
+use Rattle.rules.specs.Table.{width, word, started, parentField, parentOf, stateField, endField, readEntry, hasRead, readTime, writeField, writeEntry, hasWrites, isCommitted, hasEnd, isChildOf, isRecordOf}
+use Rattle.rules.specs.Sound.{IsStarted}
+use Rattle.rules.specs.Step.{State, withTable}
+use Rattle.rules.proofs.Laws.Tests.{and-left, and-right}
+use Rattle.rules.proofs.Sound.Changes.{Change, change-keeps-sound, writes-agree}
+use Rattle.rules.proofs.Serial.Events.{Still, lays-nothing}
+use Rattle.rules.proofs.Serial.Stale.{Old}
+use Rattle.rules.proofs.Laws.Cards.{Fits}
+use Rattle.rules.proofs.Stores.Copies.{shadow-line, line-fits}
+use Rattle.rules.proofs.Demand.See.{isAlive, effectOf, hasReadAccount, see, Stale}
+use Rattle.rules.proofs.Demand.Seeing.{Proper, alive-started, alive-live, live-alive, read-account, read-entered, account-read, effect-account, effect-no-account, card-of-store, by-account, see-tree}
+
+-- ---- effects
+
+-- an action with the same write entry and the same card has the same effect
+pub effect-kept :
+    (s t : State) (X k : ℕ) → (k < accountCount → writeEntry (t .table) X k ≡ writeEntry (s .table) X k) →
+    (k < accountCount → cardAt (t .shadow) (shadowPlace X k) ≡ cardAt (s .shadow) (shadowPlace X k)) →
+    effectOf t X k ≡ effectOf s X k
+effect-kept s t X k entry card =
+    by-account k
+    (λ account. rw (effect-account t X k account, effect-account s X k account, entry account, card account))
+    (λ beyond. effect-no-account t X k beyond ∙ sym (effect-no-account s X k beyond))
+
+-- ---- stale reads
+
+-- no word of row m has changed
+abbrev pub RowKept : List ℕ → List ℕ → ℕ → Type 0
+RowKept w v m = (g : ℕ) → g < width → word v m g ≡ word w m g
+
+record-committed : (w : List ℕ) (Q m : ℕ) → isRecordOf w Q m ≡ true → isCommitted w m ≡ true
+unfolding isRecordOf
+record-committed w Q m is = and-left (isCommitted w m) (hasWrites w m) (and-right (isChildOf w Q m) (hasEnd w m) is)
+
+record-kept : (w v : List ℕ) (Q m : ℕ) → RowKept w v m → isRecordOf v Q m ≡ isRecordOf w Q m
+unfolding isRecordOf
+record-kept w v Q m row =
+    rw (row parentField (omega arith), row stateField (omega arith), writes-agree w v m (λ k h. row (writeField k) (omega arith)))
+
+-- A stale read stays stale where committed actions keep their rows: what makes it stale is one of them. And whoever has read
+-- the account at no later a time has a stale read too.
+pub stale-stays :
+    (s t : State) {X Y Q k : ℕ} → k < accountCount → started (s .table) ≤ started (t .table) →
+    ((m : ℕ) → IsStarted (s .table) m → isCommitted (s .table) m ≡ true → RowKept (s .table) (t .table) m) →
+    readTime (t .table) Y k ≤ readTime (s .table) X k → Stale s X Q k → Stale t Y Q k
+stale-stays s t {Q = Q} {k = k} account no-fewer rows no-later st =
+    let m = st .holder in
+    let row = rows m (st .begun) (record-committed (s .table) Q m (st .isRecord)) in
+    record {
+      holder = m;
+      begun = omega (arith, st .begun);
+      isRecord = record-kept (s .table) (t .table) Q m row ∙ st .isRecord;
+      written = rw (row (writeField k) (omega arith)) (st .written);
+      later = rw (row endField (omega arith)) (omega (arith, st .later));
+    }
+
+-- ---- places
+
+-- the card of a started action lies inside the store
+pub shadow-fits :
+    {s : State} → Proper s → (X k : ℕ) → IsStarted (s .table) X → k < accountCount → Fits (s .shadow) (shadowPlace X k)
+shadow-fits {s} proper X k begun account =
+    line-fits (shadow-line (s .shadow) X (proper .shadowFits) (omega (arith, begun, proper .sound .few))) k account
+
+-- ---- an event that touches no store
+
+-- The table v keeps of each action of w the parent, the writes and the reads, and of each that has committed the whole row.
+-- For the rest, reads may have been entered, live actions may have ended and one may have begun.
+pub record Keeps (w v : List ℕ) : Type 0 where
+  pub noFewer : started w ≤ started v
+  pub parents : (m : ℕ) → IsStarted w m → parentOf v m ≡ parentOf w m
+  pub writes : (m k : ℕ) → IsStarted w m → k < accountCount → writeEntry v m k ≡ writeEntry w m k
+  pub reads : (m k : ℕ) → IsStarted w m → k < accountCount → hasRead w m k ≡ true → readEntry v m k ≡ readEntry w m k
+  pub rows : (m : ℕ) → IsStarted w m → isCommitted w m ≡ true → RowKept w v m
+
+module _ (s : State) (v : List ℕ) (kept : Keeps (s .table) v) where
+  entry-kept :
+      (X k : ℕ) → isAlive (s .table) X ≡ true → hasReadAccount (s .table) X k ≡ true → readEntry v X k ≡ readEntry (s .table) X k
+  entry-kept X k l has =
+      kept .reads X k (alive-started (s .table) X l) (read-account (s .table) X k has) (read-entered (s .table) X k has)
+
+  read-kept : (X k : ℕ) → isAlive (s .table) X ≡ true → hasReadAccount (s .table) X k ≡ true → hasReadAccount v X k ≡ true
+  read-kept X k l has =
+      account-read v X k (read-account (s .table) X k has) (rw (entry-kept X k l has) (read-entered (s .table) X k has))
+
+  pub keeps-still : Proper s → Proper (withTable s v) → Still (see s) (see (withTable s v))
+  keeps-still proper proper′ =
+      lays-nothing (see-tree s proper) (see-tree (withTable s v) proper′)
+      (λ X x. kept .parents X (alive-started (s .table) X (x .before)))
+      (λ X k x. read-kept X k (x .before))
+      (λ X k x. effect-kept s (withTable s v) X k (kept .writes X k (alive-started (s .table) X (x .before))) (λ _. refl))
+      (λ k. card-of-store (withTable s v) k ∙ sym (card-of-store s k))
+
+  pub keeps-old : Old (see s) (see (withTable s v)) (Stale s) (Stale (withTable s v))
+  keeps-old X Q k x has seen =
+      stale-stays s (withTable s v) (read-account (s .table) X k has) (kept .noFewer) (kept .rows)
+      (le-of-eq (ap (λ entry. entry - 1) (entry-kept X k (x .before) has)))
+
+-- ---- an event that starts nothing
+
+-- it makes nobody live
+pub same-parent : {w v : List ℕ} {now : ℕ} → Change w v now → (X : ℕ) → isAlive w X ≡ true → parentOf v X ≡ parentOf w X
+same-parent {w} c X l = c .parents X (alive-started w X l)
+
+pub was-alive : {w v : List ℕ} {now : ℕ} → Change w v now → (X : ℕ) → isAlive v X ≡ true → isAlive w X ≡ true
+was-alive {w} {v} c X l =
+    let begun : IsStarted w X = rw (c .sameStarted) at (alive-started v X l) in
+    live-alive w X begun (c .wasLive X begun (alive-live v X l))
+
+pub change-keeps-proper : {s : State} {v : List ℕ} {now : ℕ} → Proper s → Change (s .table) v now → Proper (withTable s v)
+change-keeps-proper {s} {v} {now} proper c =
+    record {
+      sound = change-keeps-sound (s .table) v now (proper .sound) c;
+      baseFits = proper .baseFits;
+      shadowFits = proper .shadowFits;
+    }

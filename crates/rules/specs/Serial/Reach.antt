@@ -1,0 +1,106 @@
+-- R, on its own from S and the answers: "the actions that committed all the way up". An action's number is followed on
+-- through S: where it commits its parent is followed from there, and it is in R when the end of S is reached at the
+-- store. Assumes nothing.
+use Prim.Native.Nat.{ℕ, suc}
+use mathlib.Core.Bool.{Bool, true, false, cond, _&&_}
+use mathlib.Core.Option.{Option, none, some}
+use mathlib.Core.List.{List, [], _∷_, _++_}
+use lib.Dec.{ltb, eqb}
+use Rattle.rules.specs.declared.Answer.{Answer}
+use Rattle.rules.specs.declared.Answer.the-variants.{Started, Read, Written, Committed, Failed, Aborted, Refused}
+use Rattle.rules.specs.Event.{Event}
+use Rattle.rules.specs.Serial.Effect.{Effect}
+use Rattle.rules.specs.Serial.Block.{Block, empty, read, write, child}
+use Rattle.rules.specs.Serial.Collect.{put, commitsAt}
+use Rattle.rules.specs.Serial.Steps.{Step, begins, reads, writes, ends}
+
+-- the parents, after an event
+unfoldable pub parentsAfter : Event → Answer → (ℕ → ℕ) → ℕ → ℕ
+parentsAfter e (Started n) parent = put parent n (e .number)
+parentsAfter e (Read v) parent = parent
+parentsAfter e Written parent = parent
+parentsAfter e (Committed t) parent = parent
+parentsAfter e (Failed t k) parent = parent
+parentsAfter e (Aborted n) parent = parent
+parentsAfter e (Refused n) parent = parent
+
+-- the number that an event gives away
+unfoldable pub isGivenTo : Answer → ℕ → Bool
+isGivenTo (Started m) n = eqb n m
+isGivenTo (Read v) n = false
+isGivenTo Written n = false
+isGivenTo (Committed t) n = false
+isGivenTo (Failed t k) n = false
+isGivenTo (Aborted m) n = false
+isGivenTo (Refused m) n = false
+
+-- the number to follow after those have committed who commit at an event
+unfoldable pub movedUp : (ℕ → ℕ) → List ℕ → ℕ → ℕ
+movedUp parent [] n = n
+movedUp parent (c ∷ cs) n = movedUp parent cs (cond (eqb n c) (parent n) n)
+
+-- Action n, or number 0 for the store, followed through what is left of S: is the end reached at the store? A number
+-- that is given to another action was not committed all the way up.
+unfoldable pub reachesStore : (ℕ → ℕ) → List Event → List Answer → ℕ → Bool
+reachesStore parent [] answers n = eqb n 0
+reachesStore parent (e ∷ es) [] n = eqb n 0
+reachesStore parent (e ∷ es) (a ∷ answers) n =
+    let now = parentsAfter e a parent in
+    let later = reachesStore now es answers (movedUp now (commitsAt e a) n) in
+    cond (isGivenTo a n) false later
+
+-- a read or a write: its place in S, whose it is, its account, and what it does there
+pub record Act : Type 0 where
+  pub place : ℕ
+  pub who : ℕ
+  pub account : ℕ
+  -- none for a read
+  pub effect : Option Effect
+
+-- an event's read or write, where the answer says that it took place
+unfoldable pub actOf : ℕ → Event → Answer → List Act
+actOf i e (Read v) = record { place = i; who = e .number; account = e .account; effect = none } ∷ []
+actOf i e Written = record { place = i; who = e .number; account = e .account; effect = some (some (e .card)) } ∷ []
+actOf i e (Started n) = []
+actOf i e (Committed t) = []
+actOf i e (Failed t k) = []
+actOf i e (Aborted n) = []
+actOf i e (Refused n) = []
+
+-- every read and write of the actions in R, in the order of S, from place i on
+unfoldable pub actsOfR : ℕ → (ℕ → ℕ) → List Event → List Answer → List Act
+actsOfR i parent [] answers = []
+actsOfR i parent (e ∷ es) [] = []
+actsOfR i parent (e ∷ es) (a ∷ answers) =
+    let later = actsOfR (suc i) (parentsAfter e a parent) es answers in
+    cond (reachesStore (parentsAfter e a parent) es answers (e .number)) (actOf i e a ++ later) later
+
+-- the innermost of the actions under way, 0 where there is none, and those round it
+abbrev pub innermost : List ℕ → ℕ
+innermost [] = 0
+innermost (n ∷ round) = n
+
+abbrev pub roundIt : List ℕ → List ℕ
+roundIt [] = []
+roundIt (n ∷ round) = round
+
+-- the reads and writes among the steps of a serial run; the actions under way say whose each one is
+unfoldable pub actsIn : List ℕ → List (Step Effect) → List Act
+actsIn under [] = []
+actsIn under (begins who ∷ xs) = actsIn (who ∷ under) xs
+actsIn under (reads i k ∷ xs) = record { place = i; who = innermost under; account = k; effect = none } ∷ actsIn under xs
+actsIn under (writes i k f ∷ xs) = record { place = i; who = innermost under; account = k; effect = some f } ∷ actsIn under xs
+actsIn under (ends ∷ xs) = actsIn (roundIt under) xs
+
+-- those of one place
+unfoldable pub atPlace : ℕ → List Act → List Act
+atPlace i [] = []
+atPlace i (x ∷ xs) = let later = atPlace i xs in cond (eqb (x .place) i) (x ∷ later) later
+
+-- The steps of a block stand in the order of S, all before place t: its own reads and writes and its children's commits,
+-- and each child's steps before its commit.
+unfoldable pub inOrder : {E : Type 0} → ℕ → Block E → Bool
+inOrder t empty = true
+inOrder t (read b i k) = ltb i t && inOrder i b
+inOrder t (write b i k f) = ltb i t && inOrder i b
+inOrder t (child b i who d) = ltb i t && inOrder i b && inOrder i d
