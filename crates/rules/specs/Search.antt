@@ -1,20 +1,23 @@
 -- The search that finds the first clash: "both the records and the accounts are left at the first clash, records taken
 -- by rising end time". proofs/Clash/Searching.antt shows that it finds `firstClash`. Assumes nothing.
 use Prim.Native.Nat.{ℕ, zero, suc}
-use mathlib.Core.Bool.{cond, _&&_, _||_}
+use mathlib.Core.Bool.{Bool, cond, _&&_, _||_}
 use mathlib.Core.List.{List, [], _∷_}
 use lib.Dec.{ltb, eqb}
 use Rattle.rules.specs.Card.{accounts}
 use Rattle.rules.specs.Table.{mostActions, parentOf, endTime, records}
 use Rattle.rules.specs.Clash.{isClash, Found, none, at}
 
+-- m ends after t, and sooner than the action `next` where that is one
+abbrev pub isSooner : List ℕ → ℕ → ℕ → ℕ → Bool
+isSooner w t m next = ltb t (endTime w m) && (eqb next 0 || ltb (endTime w m) (endTime w next))
+
 -- of the actions ms the one with the smallest end time above t, 0 where there is none
 unfoldable pub nextAfter : List ℕ → ℕ → List ℕ → ℕ
 nextAfter w t [] = 0
 nextAfter w t (m ∷ ms) =
     let next = nextAfter w t ms in
-    let sooner = ltb t (endTime w m) && (eqb next 0 || ltb (endTime w m) (endTime w next)) in
-    cond sooner m next
+    cond (isSooner w t m next) m next
 
 -- the first of the accounts ks at which n clashes with record m; else what `rest` finds
 unfoldable pub searchAccounts : List ℕ → ℕ → ℕ → Found → List ℕ → Found

@@ -7,13 +7,13 @@ use mathlib.Core.Path.{_≡_, refl, sym, ap, _∙_}
 use mathlib.Core.Logic.{_↔_, _≢_, _⊎_, inl, inr, ⊎-elim, ⊎-map}
 use mathlib.Core.Bool.{true, false, cond}
 use mathlib.Core.List.{List, [], _∷_, List·Memᴰ, List·Memᴰ·head, List·Memᴰ·tail, List·Memᴰ·not-nil, List·Memᴰ·cases-cons}
-use lib.Dec.{ltb}
+use lib.Dec.{ltb, eqb}
 use borrow.Author.Tests.{ltb-true, ltb-false, eqb-true, eq-eqb, ne-eqb}
 use Rattle.rules.specs.Range.{upFrom}
 use Rattle.rules.specs.Card.{accountCount, accounts}
 use Rattle.rules.specs.Table.{hasEnd, mostActions, started, counter, parentOf, endTime, isCommitted, actions, isChildOf, isRecordOf, records}
 use Rattle.rules.specs.Sound.{IsStarted, Sound}
-use Rattle.rules.specs.Clash.{isClash, Pair, Found, firstClash}
+use Rattle.rules.specs.Clash.{isClash, Pair, Found, none, firstClash}
 use Rattle.rules.specs.Search.{nextAfter, searchAccounts, searchRecords, search}
 use Rattle.rules.proofs.Laws.Tests.{and-left, and-right, test, not-both}
 use Rattle.rules.proofs.Laws.Ranges.{Within, count-at-most}
@@ -145,13 +145,17 @@ record-has-end : (w : List ℕ) (p m : ℕ) → isRecordOf w p m ≡ true → ha
 unfolding isRecordOf
 record-has-end w p m h = and-right (isChildOf w p m) (hasEnd w m) h
 
-counter-at-most : (w : List ℕ) → Sound w → counter w ≤ mostActions
+pub counter-at-most : (w : List ℕ) → Sound w → counter w ≤ mostActions
 unfolding actions
 counter-at-most w s = omega (arith, s .counted, count-at-most (isCommitted w) 1 (started w), s .few)
 
 -- c is a clash of n, with an end time above t
 abbrev ClashAfter : List ℕ → ℕ → ℕ → Pair → Type 0
 ClashAfter w n t c = IsClashing w n c × (t < endTime w (c .holder))
+
+-- the search of the records with end times above t: as many rounds as there can be actions are enough at any t
+abbrev pub searchAfter : List ℕ → ℕ → ℕ → Found
+searchAfter w n t = searchRecords w n mostActions t
 
 clash-record : (w : List ℕ) (n : ℕ) (c : Pair) → IsClashing w n c → List·Memᴰ (c .holder) (records w (parentOf w n))
 clash-record w n c h = in-records w (parentOf w n) (c .holder) .1 (h .begun, h .isRecord)
@@ -168,6 +172,21 @@ module _ (w : List ℕ) (n : ℕ) (s : Sound w) where
       s .alone m x (hm .0) (hx .0) (record-has-end w p m (hm .1)) (record-has-end w p x (hx .1))
       (record-parent w p x (hx .1) ∙ sym (record-parent w p m (hm .1)))
       e
+
+  -- no record has the number 0
+  positive : (p x : ℕ) → List·Memᴰ x (records w p) → 1 ≤ x
+  positive p x r = in-records w p x .0 r .0 .0
+
+  -- the next record is a started action, and ends above t and within the counter
+  pub next-started :
+      (p t m : ℕ) → m ≡ nextAfter w t (records w p) → m ≢ 0 → IsStarted w m × (t < endTime w m) × (endTime w m ≤ counter w)
+  next-started p t m e ne =
+      ⊎-elim
+      (λ empty. absurd (ne (e ∙ empty .0)))
+      (λ is.
+      let next = in-records w p (nextAfter w t (records w p)) .0 (is .member) in
+      rw e (next .0, is .above, s .ends _ (next .0) (record-has-end w p _ (next .1)) .1))
+      (nextAfter-finds w t (records w p) (positive p))
 
   -- the clashes after t are those with the next record, and those after it
   after-next :
@@ -203,13 +222,10 @@ module _ (w : List ℕ) (n : ℕ) (s : Sound w) where
       ⊎-elim
       none-left
       (λ is. next-first is (searchRecords-finds left (endTime w m) (omega (arith, is .above))))
-      (nextAfter-finds w t (records w (parentOf w n)) positive)
+      (nextAfter-finds w t (records w (parentOf w n)) (positive (parentOf w n)))
     where
       m : ℕ
       m = nextAfter w t (records w (parentOf w n))
-
-      positive : (x : ℕ) → List·Memᴰ x (records w (parentOf w n)) → 1 ≤ x
-      positive x r = in-records w (parentOf w n) x .0 r .0 .0
 
       none-left : NoneAfter w t (records w (parentOf w n)) m → Finds w (ClashAfter w n t) (searchRecords w n (suc left) t)
       none-left empty =
@@ -221,8 +237,35 @@ module _ (w : List ℕ) (n : ℕ) (s : Sound w) where
           Finds w (ClashAfter w n (endTime w m)) (searchRecords w n left (endTime w m)) →
           Finds w (ClashAfter w n t) (searchRecords w n (suc left) t)
       next-first is rest =
-          rw (ne-eqb m 0 (λ z. omega (arith, positive m (is .member))))
+          rw (ne-eqb m 0 (λ z. omega (arith, positive (parentOf w n) m (is .member))))
           (finds-same (after-next t m is) (searchAccounts-finds w n m (λ c h. h .1) rest 0 accountCount))
+
+  -- ---- the search after t, round by round
+
+  -- one round, which leaves one fewer
+  round :
+      (left t m : ℕ) → m ≡ nextAfter w t (records w (parentOf w n)) →
+      searchRecords w n (suc left) t
+      ≡ cond (eqb m 0) none (searchAccounts w n m (searchRecords w n left (endTime w m)) accounts)
+  unfolding searchRecords
+  round left t m e = rw e
+
+  -- there is no next record
+  pub search-none : (t m : ℕ) → m ≡ nextAfter w t (records w (parentOf w n)) → m ≡ 0 → searchAfter w n t ≡ none
+  search-none t m e z = rw (round 63 t m e, z)
+
+  -- there is one: its accounts come first, then the records after it
+  pub search-next :
+      (t m : ℕ) → m ≡ nextAfter w t (records w (parentOf w n)) → m ≢ 0 →
+      searchAfter w n t ≡ searchAccounts w n m (searchAfter w n (endTime w m)) accounts
+  search-next t m e ne =
+      let next = next-started (parentOf w n) t m e ne in
+      let few = counter-at-most w s in
+      rw (
+        round 63 t m e,
+        ne-eqb m 0 ne,
+        finds-once (searchRecords-finds 63 (endTime w m) (omega arith)) (searchRecords-finds mostActions (endTime w m) (omega arith)),
+      )
 
 -- "In the search both the records and the accounts are left at the first clash, records taken by rising end time."
 pub search-finds : (w : List ℕ) (n : ℕ) → Sound w → search w n ≡ firstClash w n

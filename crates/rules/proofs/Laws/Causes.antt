@@ -16,7 +16,7 @@ use Rattle.rules.proofs.Laws.Tests.{test, not-holds, not-fails, and-hol
 
 -- ---- what each cause denies
 
-stores-fit : (base shadow : List ℕ) → (isStoreMisfit base shadow ≡ false) ↔ ((length base ≡ baseLength) × (length shadow ≡ shadowLength))
+pub stores-fit : (base shadow : List ℕ) → (isStoreMisfit base shadow ≡ false) ↔ ((length base ≡ baseLength) × (length shadow ≡ shadowLength))
 stores-fit base shadow = simp (not-fails, and-holds, eqb-holds) Iff·rfl
 
 code-known : (code : ℕ) → (isCodeUnknown code ≡ false) ↔ ((1 ≤ code) × (code ≤ 5))
@@ -57,7 +57,7 @@ pub record Allowed (w base shadow : List ℕ) (e : Event) : Type 0 where
   pub childless : (isRead e || isWrite e || isCommit e) ≡ true → hasLiveChild w (e .number) ≡ false
 
 -- a cause that isn't given doesn't apply, and none of those behind it is given
-not-given : (b : Bool) (c rest : ℕ) → cond b (suc c) rest ≡ 0 → (b ≡ false) × (rest ≡ 0)
+pub not-given : (b : Bool) (c rest : ℕ) → cond b (suc c) rest ≡ 0 → (b ≡ false) × (rest ≡ 0)
 not-given true c rest z = absurd (omega arith)
 not-given false c rest z = (refl, z)
 

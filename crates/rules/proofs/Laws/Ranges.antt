@@ -195,6 +195,19 @@ each-keeps P f a zero h s p = p
 each-keeps P f a (suc n) h s p =
     each-keeps P f (suc a) n (λ x r. h x (rest-within a n x r)) (f a s) (h a (first-within a n) s p)
 
+-- two changes that agree wherever they are made; P x is what holds where x is next
+pub each-agree :
+    {A : Type 0} (P : ℕ → A → Type 0) (f g : ℕ → A → A) (a n : ℕ) →
+    ((x : ℕ) → Within a n x → (s : A) → P x s → f x s ≡ g x s) →
+    ((x : ℕ) → Within a n x → (s : A) → P x s → P (suc x) (g x s)) →
+    (s : A) → P a s → each f (upFrom a n) s ≡ each g (upFrom a n) s
+unfolding each upFrom
+each-agree P f g a zero agree keeps s p = refl
+each-agree P f g a (suc n) agree keeps s p =
+    ap (each f (upFrom (suc a) n)) (agree a (first-within a n) s p)
+    ∙ each-agree P f g (suc a) n (λ x r. agree x (rest-within a n x r)) (λ x r. keeps x (rest-within a n x r))
+    (g a s) (keeps a (first-within a n) s p)
+
 -- What the change for k makes of a cell stands there after all of them, where no other change touches that cell. P is
 -- what the changes need and keep.
 pub each-changes :
@@ -266,6 +279,19 @@ module _ (f : ℕ → Bool) (a end : ℕ) where
   pub all-left-done : end ≤ a → all f (upFrom a (end - a)) ≡ true
   unfolding all
   all-left-done h = rw (left-done a end h)
+
+  -- the first of what is left is counted, or it is passed over
+  pub count-left-here : a < end → f a ≡ true → count f (upFrom a (end - a)) ≡ suc (count f (upFrom (a + 1) (end - (a + 1))))
+  unfolding count
+  count-left-here h p = rw (left-next a end h, p)
+
+  pub count-left-next : a < end → f a ≡ false → count f (upFrom a (end - a)) ≡ count f (upFrom (a + 1) (end - (a + 1)))
+  unfolding count
+  count-left-next h p = rw (left-next a end h, p)
+
+  pub count-left-done : end ≤ a → count f (upFrom a (end - a)) ≡ 0
+  unfolding count
+  count-left-done h = rw (left-done a end h)
 
 pub each-left-next :
     {A : Type 0} (f : ℕ → A → A) (a end : ℕ) (s : A) → a < end →

@@ -1,5 +1,5 @@
--- Going up the parents. Where they fall, a bound on the moves that is large enough makes no difference; so in a sound table
--- the nearest version, and what is at or below an action, follow from the action and its parent. Assumes nothing.
+-- Going up the parents. Where they fall, a bound on the moves that is large enough makes no difference; so the nearest
+-- version in a sound table, and what is at or below an action, follow from the action and its parent. Assumes nothing.
 use Prim.Native.Nat.{ℕ, zero, suc, _≤_, _<_}
 use native.Mathlib.Nat.{le-refl}
 use native.Mathlib.Omega.{arith}
@@ -128,10 +128,10 @@ pub atOrBelow-store : (w : List ℕ) (a : ℕ) → isAtOrBelow w a 0 ≡ false
 unfolding isAtOrBelow
 atOrBelow-store w a = walk-store _ _ _ mostActions
 
-module _ (w : List ℕ) (s : Sound w) where
+module _ (w : List ℕ) (few : started w ≤ mostActions) (falls : Falls (parentOf w) (started w)) where
   pub atOrBelow-step : (a m : ℕ) → IsStarted w m → isAtOrBelow w a m ≡ (eqb m a || isAtOrBelow w a (parentOf w m))
   unfolding isAtOrBelow
-  atOrBelow-step a m h = walk-step _ _ _ (started w) (s .below) mostActions m h (omega arith)
+  atOrBelow-step a m h = walk-step _ _ _ (started w) falls mostActions m h (omega arith)
 
   pub atOrBelow-itself : (m : ℕ) → IsStarted w m → isAtOrBelow w m m ≡ true
   atOrBelow-itself m h = atOrBelow-step m m h ∙ or-inl _ (eq-eqb m m refl)
@@ -146,5 +146,5 @@ module _ (w : List ℕ) (s : Sound w) where
       (a m : ℕ) → m ≤ started w → isAtOrBelow v a m ≡ isAtOrBelow w a m
   unfolding isAtOrBelow
   atOrBelow-agree v parents a m known =
-      walk-agree _ _ _ _ _ (started w) (s .below) parents (λ n h above. refl)
+      walk-agree _ _ _ _ _ (started w) falls parents (λ n h above. refl)
       mostActions mostActions m known (omega arith) (omega arith)

@@ -114,7 +114,7 @@ module _ (w : List ℕ) (n : ℕ) where
     parent-left m h l p one =
         let out = not-true (isAtOrBelow w n m) (and-right (isLive w m) _ (sym (abort-live m h) ∙ l)) in
         let below = s .below m h in
-        rw (abort-live (parentOf w m) (omega arith)) (and-both p (ap not (notBelow-parent w s n m h out)))
+        rw (abort-live (parentOf w m) (omega arith)) (and-both p (ap not (notBelow-parent w (s .few) (s .below) n m h out)))
 
     -- what becomes aborted was live, not committed
     committed-kept : (m : ℕ) → IsStarted w m → isCommitted (abortTable w n) m ≡ isCommitted w m
@@ -162,7 +162,7 @@ module _ (w : List ℕ) (n : ℕ) where
     unfolding actions
     abort-counts-itself h l =
         count-some (isAbortedBy w n) _
-        (any-at (isAbortedBy w n) 1 (started w) n (omega arith) (and-both l (atOrBelow-itself w s n h)))
+        (any-at (isAbortedBy w n) 1 (started w) n (omega arith) (and-both l (atOrBelow-itself w (s .few) (s .below) n h)))
 
     reached-became-aborted : (m : ℕ) → IsStarted w m → isAbortedBy w n m ≡ becameAborted w (abortTable w n) m
     reached-became-aborted m h = rw (abort-state m h) (reached (isLive w m) (isAtOrBelow w n m) refl)

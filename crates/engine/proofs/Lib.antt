@@ -1,0 +1,8 @@
+-- Facts that several of the engine's proofs use.
+pub mod Negated
+pub mod Causes
+pub mod Joining
+pub mod ClashSearch
+pub mod AbortMarks
+pub mod CommitCopies
+pub mod Listed

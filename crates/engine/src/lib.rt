@@ -1,0 +1,21 @@
+// The engine: every event, look and list of events, on a table and two stores that the caller lends.
+mod abort;
+mod act;
+mod cards;
+mod cause;
+mod clash;
+mod commit;
+pub mod event;
+mod family;
+mod fields;
+pub mod look;
+pub mod open;
+mod place;
+mod read;
+pub mod run;
+mod sets;
+mod sound;
+mod start;
+mod walk;
+mod words;
+mod write;
