@@ -6,6 +6,7 @@ mod cause;
 mod clash;
 mod commit;
 pub mod event;
+pub mod head;
 mod family;
 mod fields;
 pub mod look;
