@@ -6,13 +6,13 @@ use native.Mathlib.Omega.{arith}
 use native.Mathlib.Decide.{ℕ-discrete}
 use mathlib.Core.Path.{_≡_, refl, sym, ap, _∙_}
 use mathlib.Core.Logic.{_≢_}
-use mathlib.Core.Bool.{true, false, not, cond, _||_}
+use mathlib.Core.Bool.{true, false, not}
 use mathlib.Core.List.{List, [], _∷_, _++_}
-use borrow.Author.Tests.{eqb-true, eqb-false, eq-eqb, ne-eqb, le-ltb, not-true, not-false}
+use borrow.Author.Tests.{eqb-true, eq-eqb, ne-eqb, le-ltb, not-false}
 use lib.Dec.{eqb, ltb}
 use lib.ListN.{length, take, drop, replicate, length-append, length-drop, length-replicate}
 use lib.Seq.{take-all}
-use Rattle.rules.specs.Card.{baseLength, shadowLength}
+use Rattle.rules.specs.Card.{baseLength}
 use Rattle.rules.specs.Table.{tableLength, newTable, started, counter}
 use Rattle.rules.specs.Cause.{isStoreMisfit}
 use Rattle.rules.specs.Event.{Event}
@@ -20,11 +20,11 @@ use Rattle.rules.specs.Step.{State, step}
 use Rattle.rules.specs.Run.{run}
 use Rattle.rules.proofs.Laws.Causes.{not-given, stores-fit}
 use Rattle.rules.proofs.Sound.Kept.{new-sound}
-use Rattle.engine.specs.Listed.{eventLength, eventsFrom, eventsIn, wordsOfAll, isListMisfit, listCause, listState, listAnswers}
-use Rattle.engine.specs.Promise.{openTable}
+use Rattle.table.specs.Open.{openTable}
+use Rattle.engine.specs.Listed.{eventLength, eventsFrom, eventsIn, listCause, listState, listAnswers}
 use Rattle.engine.proofs.Causes.{Accepted}
 use Rattle.engine.proofs.Listed.{list-misfit-cause}
-use Rattle.dayfile.specs.File.{eventCount, eventBytes, eventsAt, fileLength, fileFault}
+use Rattle.dayfile.specs.File.{eventCount, eventBytes, eventsAt}
 use Rattle.dayfile.specs.Opening.{openingBase}
 use Rattle.dayfile.specs.Day.{dayCause, Accepts, dayRun, dayWords, evening, dayLines, listing}
 use Rattle.dayfile.specs.Listing.{endLine, refusedLine}

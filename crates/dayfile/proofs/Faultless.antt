@@ -1,16 +1,15 @@
 -- A day file without a fault, as facts about its bytes: what the tests that `fileFault` passed over say. Assumes nothing.
-use Prim.Native.Nat.{ℕ, _-_, _≤_, _<_}
+use Prim.Native.Nat.{ℕ, _≤_, _<_}
 use native.Mathlib.Omega.{arith}
 use mathlib.Core.Path.{_≡_}
-use mathlib.Core.Logic.{⊎-elim}
-use mathlib.Core.Bool.{true, not}
+use mathlib.Core.Bool.{not}
 use mathlib.Core.List.{List}
 use lib.Dec.{ltb, eqb}
 use lib.ListN.{length}
 use borrow.Author.Tests.{ltb-true, ltb-false, eqb-true}
 use Rattle.rules.specs.Range.{upFrom, all}
 use Rattle.rules.specs.Card.{accountCount}
-use Rattle.rules.proofs.Laws.Tests.{and-left, and-right, or-cases, not-fails, nonzero}
+use Rattle.rules.proofs.Laws.Tests.{and-left, not-fails, nonzero}
 use Rattle.rules.proofs.Laws.Ranges.{all-at}
 use Rattle.rules.proofs.Laws.Causes.{not-given}
 use Rattle.dayfile.specs.File.{mostCards, cardCount, accountAt, mostEvents, eventCount, eventsAt, fileLength, isRising, fileFault}
@@ -23,19 +22,6 @@ pub record Faultless (file : List ℕ) : Type 0 where
   pub fewEvents : eventCount file ≤ mostEvents
   pub whole : length file ≡ fileLength file
   pub accountKnown : (i : ℕ) → i < cardCount file → accountAt file i < accountCount
-  pub accountsRise : (i : ℕ) → 1 ≤ i → i < cardCount file → accountAt file (i - 1) < accountAt file i
-
--- the ith opening account, where it is tested and passed
-module _ (file : List ℕ) (i : ℕ) (rising : isRising file i ≡ true) where
-  account-known : accountAt file i < accountCount
-  account-known = ltb-true _ _ (and-left _ _ rising)
-
-  accounts-rise : 1 ≤ i → accountAt file (i - 1) < accountAt file i
-  accounts-rise positive =
-      ⊎-elim
-      (λ first. absurd (omega (arith, eqb-true i 0 first)))
-      (ltb-true _ _)
-      (or-cases (eqb i 0) _ (and-right (ltb (accountAt file i) accountCount) _ rising))
 
 pub faultless : (file : List ℕ) → fileFault file ≡ 0 → Faultless file
 unfolding fileFault
@@ -53,6 +39,5 @@ faultless file none₁ =
       counted = ltb-false _ _ cut;
       fewEvents = ltb-false _ _ manyEvents;
       whole = eqb-true _ _ (not-fails _ .0 misfit);
-      accountKnown = λ i h. account-known file i (rising i (not-fails _ .0 unordered) (omega arith));
-      accountsRise = λ i positive h. accounts-rise file i (rising i (not-fails _ .0 unordered) (omega arith)) positive;
+      accountKnown = λ i h. ltb-true _ _ (and-left _ _ (rising i (not-fails _ .0 unordered) (omega arith)));
     }

@@ -8,7 +8,7 @@ use native.Mathlib.Numerals.{add-one}
 use mathlib.Core.Path.{_≡_, _∙_}
 use mathlib.Core.List.{List, [], _∷_, _++_, append-assoc, append-nil}
 use lib.ListN.{length, take, drop, set, length-append, length-take, length-drop, drop-of-length-le, take-append-drop}
-use lib.Seq.{length-take-le, take-all, take-length, take-at, drop-at, drop-drop, set-split, append-snoc}
+use lib.Seq.{length-take-le, take-all, take-at, drop-at, drop-drop, set-split, append-snoc}
 use Rattle.dayfile.specs.Buffer.{putAt}
 
 pub putAt-length :
@@ -89,16 +89,3 @@ putAt-nothing buffer at = rw (append-nil, add-zero, take-append-drop)
 pub putAt-byte : (buffer : List ℕ) (at b : ℕ) → at < length buffer → set buffer at b ≡ putAt buffer at (b ∷ [])
 unfolding putAt
 putAt-byte buffer at b h = rw (set-split, add-one, append-snoc)
-
--- a text copied into the part of the buffer that it fills
-pub putAt-copied :
-    (buffer text part : List ℕ) (at : ℕ)
-    → part ≡ take (length text) text ++ drop (length text) (take (at + length text - at) (drop at buffer))
-    → take at buffer ++ (part ++ drop (at + length text - at) (drop at buffer)) ≡ putAt buffer at text
-unfolding putAt
-putAt-copied buffer text part at copied =
-    let many : at + length text - at ≡ length text = omega arith in
-    let room = take (at + length text - at) (drop at buffer) in
-    let filled : length room ≤ length text = omega (arith, length-take (at + length text - at) (drop at buffer)) in
-    let whole : part ≡ text = copied ∙ rw (take-length, beyond (length text) room filled, append-nil) in
-    rw (whole, many, drop-drop, append-assoc)

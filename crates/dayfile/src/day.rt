@@ -48,7 +48,7 @@ fn run_file(
     ensures leaves { λ r. ⌜ stateOf (now (table .exit)) (now (base .exit)) (now (shadow .exit)) ≡ dayRun (now (shadow .entry)) (now (file .entry)) .after ⌝ }
     ensures answers { λ r. ⌜ now (answers .exit) ≡ dayWords (now (shadow .entry)) (now (file .entry)) (now (answers .entry)) ⌝ }
 {
-    engine::open::open(table);
+    table::open(table);
     open_base(file, base);
     let at = events_at(file);
     engine::run::run(table, base, shadow, &file[at..], answers);

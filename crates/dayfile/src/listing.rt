@@ -94,8 +94,8 @@ pub(crate) fn put_listing(out: &mut [u8], answers: &[u64], count: usize, table: 
     ensures leaves { λ r. ⌜ now (out .exit) ≡ putAt (now (out .entry)) 0 (linesOf (now (answers .entry)) 1 0 count ++ endLine (started (now (table .entry))) (counter (now (table .entry)))) ⌝ }
 {
     let next = put_lines(out, answers, count);
-    let started = engine::head::started(table);
-    let counter = engine::head::counter(table);
+    let started = table::started(table);
+    let counter = table::counter(table);
     put_end(out, next, started, counter)
 }
 

@@ -1,12 +1,8 @@
 -- What the open calls give back. Assumes nothing.
 use Prim.Native.Nat.{ℕ}
 use mathlib.Core.Path.{_≡_}
-use mathlib.Core.Bool.{cond}
 use mathlib.Core.List.{List}
-use lib.Dec.{eqb}
-use lib.ListN.{length}
 use Rattle.rules.specs.declared.Answer.{Answer}
-use Rattle.rules.specs.Table.{tableLength, newTable}
 use Rattle.rules.specs.Answer.{said}
 use Rattle.rules.specs.Event.{Event}
 use Rattle.rules.specs.Step.{State, Outcome}
@@ -25,10 +21,3 @@ outcomeOf answer table base shadow = record { answer = answer; after = stateOf t
 pub record Gives (answer : Answer) (table base shadow : List ℕ) (o : Outcome) : Type 0 where
   pub says : said answer ≡ said (o .answer)
   pub leaves : stateOf table base shadow ≡ o .after
-
--- Opening a buffer: 0 and the new table, or 2 where the buffer has another length, and the buffer as it was.
-abbrev pub openCause : List ℕ → ℕ
-openCause buffer = cond (eqb (length buffer) tableLength) 0 2
-
-abbrev pub openTable : List ℕ → List ℕ
-openTable buffer = cond (eqb (length buffer) tableLength) newTable buffer

@@ -25,9 +25,6 @@ isWrite e = eqb (e .code) 3
 abbrev pub isCommit : Event → Bool
 isCommit e = eqb (e .code) 4
 
-abbrev pub isAbort : Event → Bool
-isAbort e = eqb (e .code) 5
-
 -- the events by name, with nothing in the parts that they don't use
 abbrev pub startUnder : ℕ → Event
 startUnder p = record { code = 1; number = p; account = 0; card = [] }

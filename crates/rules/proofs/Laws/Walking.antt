@@ -111,17 +111,6 @@ module _ (w : List ℕ) (s : Sound w) where
       (λ m h near written. cond-holds (λ x. x ≢ 0 → hasWritten w x k ≡ true) (hasWritten w m k) (λ e ne. e) (λ e. written))
       mostActions n known (omega arith)
 
-  -- another table with the same parents, where the same actions have written the account
-  pub nearest-agree :
-      (v : List ℕ) → ((m : ℕ) → IsStarted w m → parentOf v m ≡ parentOf w m) →
-      (k : ℕ) → ((m : ℕ) → IsStarted w m → hasWritten v m k ≡ hasWritten w m k) →
-      (n : ℕ) → n ≤ started w → nearest v n k ≡ nearest w n k
-  unfolding nearest
-  nearest-agree v parents k written n known =
-      walk-agree _ _ _ _ _ (started w) (s .below) parents
-      (λ m h above. ap (λ b. cond b m above) (written m h))
-      mostActions mostActions n known (omega arith) (omega arith)
-
 -- ---- at or below an action
 
 pub atOrBelow-store : (w : List ℕ) (a : ℕ) → isAtOrBelow w a 0 ≡ false

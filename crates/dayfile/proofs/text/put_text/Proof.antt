@@ -2,7 +2,7 @@
 -- text's, and no other byte changes. Assumes nothing.
 use mathlib.Core.Path.{refl}
 use borrow.Author.Needs.{needs}
-use Rattle.dayfile.proofs.Texts.{putAt-copied}
+use Rattle.dayfile.proofs.CopiedPart.{copied-text}
 use Rattle.dayfile.proofs.text.put_text.Statement.{statement}
 use Rattle.dayfile.proofs.text.put_text.Tie as tie
 
@@ -25,7 +25,7 @@ same-length : tie.Need-same-length
 same-length c = search needs
 
 returns : tie.Need-returns
-returns c = (refl, putAt-copied _ _ _ _ (c .before .before .copy .ensures .1))
+returns c = (refl, copied-text _ _ _ _ (c .before .before .copy .ensures .1))
 
 pub put-text-spec : {M : Type 1} → statement M
 put-text-spec =

@@ -1,31 +1,24 @@
+-- A field of a row lies inside the table; put there, it makes the rules' table. Assumes nothing.
 use borrow.Author.Needs.{needs}
 use Rattle.rules.specs.Table.{withWord}
 use Rattle.engine.proofs.words.put.Statement.{statement}
 use Rattle.engine.proofs.words.put.Tie as tie
-use Rattle.engine.proofs.words.put.Reads as reads
-use Rattle.engine.proofs.words.put.Lts as lts
 
--- src/words.rt:20:12
 mul-table : tie.Need-mul-table
 mul-table c = search needs
 
--- src/words.rt:20:12
 add-table : tie.Need-add-table
 add-table c = search needs
 
--- src/words.rt:20:5
 mul-table-2 : tie.Need-mul-table-2
 mul-table-2 c = search needs
 
--- src/words.rt:20:5
 slice-write-table : tie.Need-slice-write-table
 slice-write-table c = search needs
 
--- src/words.rt:15:1
 same-length : tie.Need-same-length
 same-length c = search needs
 
--- src/words.rt:15:1
 returns : tie.Need-returns
 unfolding withWord
 returns c = search needs

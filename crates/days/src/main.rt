@@ -1,0 +1,36 @@
+// Every kind of day, each from a file of data/: its name, then its listing.
+// The expected lines were worked out by another program, written from document 01 alone.
+fn print_day(name: &[u8]) {
+    io::write_all(1, name);
+    io::write_all(1, b"\n");
+    let from = os::open_read(name);
+    dayio::print_listing(from);
+    libc::close(from);
+}
+
+fn main() {
+    print_day(b"case-04.day");
+    print_day(b"case-11.day");
+    print_day(b"fault-empty.day");
+    print_day(b"fault-33-cards.day");
+    print_day(b"fault-cards-cut.day");
+    print_day(b"fault-no-count.day");
+    print_day(b"fault-1001-events.day");
+    print_day(b"fault-count-low-byte-first.day");
+    print_day(b"fault-events-cut.day");
+    print_day(b"fault-bytes-after.day");
+    print_day(b"fault-equal-accounts.day");
+    print_day(b"fault-falling-accounts.day");
+    print_day(b"fault-account-32.day");
+    print_day(b"fault-cut-before-accounts.day");
+    print_day(b"fault-too-long.day");
+    print_day(b"deep.day");
+    print_day(b"siblings-that-clash.day");
+    print_day(b"siblings-that-only-write.day");
+    print_day(b"all-opening-cards.day");
+    print_day(b"aborted-trees.day");
+    print_day(b"no-events.day");
+    print_day(b"nothing.day");
+    print_day(b"mixed-1.day");
+    print_day(b"mixed-2.day");
+}

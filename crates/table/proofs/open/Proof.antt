@@ -1,0 +1,73 @@
+-- `open` meets its contract. The loop's invariant: the first i words are 0, and the rest is as it was. The
+-- measure is what is left of the table. Assumes nothing.
+use Prim.Native.Nat.{_-_, _≤_}
+use native.Mathlib.Omega.{arith}
+use mathlib.Core.Path.{_≡_, refl, ap, _∙_}
+use mathlib.Core.List.{[], _++_, append-nil}
+use borrow.Author.Fill.{fill-more}
+use borrow.Author.Needs.{needs}
+use borrow.Author.Tests.{eq-eqb, ne-eqb}
+use lib.ListN.{length, set, drop, replicate, length-set, drop-of-length-le}
+use Rattle.rules.specs.Table.{tableLength, newTable}
+use Rattle.table.proofs.open.Statement.{statement}
+use Rattle.table.proofs.open.Tie as tie
+
+abbrev Inv-loop : tie.InvT-loop
+Inv-loop table₀ i₀ table i = (i ≤ tableLength) × (length table ≡ tableLength) × (table ≡ replicate i 0 ++ drop i table₀)
+
+abbrev μ-loop : tie.MeasureT-loop
+μ-loop table₀ i₀ table i = tableLength - i
+
+returns : tie.Need-returns Inv-loop μ-loop
+returns c = rw (ne-eqb _ 4355 (c .if1 .taken)) (refl, refl)
+
+loop-holds : tie.Need-loop-holds Inv-loop μ-loop
+loop-holds c = search needs
+
+mul-table : tie.Need-mul-table Inv-loop μ-loop
+mul-table c = search needs
+
+slice-write-table : tie.Need-slice-write-table Inv-loop μ-loop
+slice-write-table c = search needs
+
+add-i : tie.Need-add-i Inv-loop μ-loop
+add-i c = search needs
+
+loop-less : tie.Need-loop-less Inv-loop μ-loop
+loop-less c = search needs
+
+loop-again : tie.Need-loop-again Inv-loop μ-loop
+loop-again c =
+    let loop = c .before .loop in (
+      omega arith,
+      simp length-set (loop .inv .1),
+      ap (λ table. set table (loop .i) 0) (loop .inv .2) ∙ fill-more (loop .i) 0 _ (omega arith),
+    )
+
+same-length : tie.Need-same-length Inv-loop μ-loop
+same-length c = search needs
+
+returns-2 : tie.Need-returns-2 Inv-loop μ-loop
+unfolding newTable
+returns-2 c =
+    let table₀ = c .before .before .before .args .table .now in
+    let done : c .before .loop .i ≡ tableLength = omega arith in
+    let none : drop tableLength table₀ ≡ [] = drop-of-length-le table₀ {i = tableLength} (omega arith) in
+    rw (eq-eqb (length table₀) tableLength (c .before .before .if1 .left))
+    (refl, c .before .loop .inv .2 ∙ rw (done, none) (append-nil newTable))
+
+pub open-spec : {M : Type 1} → statement M
+open-spec =
+    tie.close
+    (tie.spec
+    Inv-loop
+    μ-loop
+    returns
+    loop-holds
+    mul-table
+    slice-write-table
+    add-i
+    loop-less
+    loop-again
+    same-length
+    returns-2)
