@@ -1,17 +1,20 @@
 -- The search for the first clash as its loops go: the records of a parent from the last start down, and the accounts of one
--- record from the first on. Assumes nothing.
-use Prim.Native.Nat.{ℕ, _+_, _-_, _≤_, _<_}
+-- record from the first on; and where it may begin. Assumes nothing.
+use Prim.Native.Nat.{ℕ, zero, suc, _+_, _-_, _≤_, _<_, min}
 use native.Mathlib.Nat.{le-refl}
 use native.Mathlib.Omega.{arith}
+use native.Mathlib.Decide.{ℕ-discrete}
 use mathlib.Core.Path.{_≡_, refl}
 use mathlib.Core.Bool.{Bool, true, false, cond}
 use mathlib.Core.List.{List, _∷_}
-use Rattle.rules.specs.Range.{upFrom, keep}
-use Rattle.rules.specs.Card.{accountCount}
-use Rattle.rules.specs.Table.{started, endTime, actions, isRecordOf, records}
+use Rattle.rules.specs.Range.{upFrom, keep, each}
+use Rattle.rules.specs.Card.{accountCount, accounts}
+use Rattle.rules.specs.Table.{started, counter, endTime, hasRead, readTime, actions, isRecordOf, records}
 use Rattle.rules.specs.Clash.{isClash, Found, at}
 use Rattle.rules.specs.Search.{isSooner, nextAfter, searchAccounts}
-use Rattle.rules.proofs.Laws.Ranges.{left-next, left-done}
+use Rattle.rules.proofs.Laws.Tests.{cond-holds}
+use Rattle.rules.proofs.Laws.Ranges.{Within, left-next, left-done, each-keeps, each-left-next, each-left-done}
+use Rattle.engine.specs.Find.{firstRead}
 
 -- ---- the next record
 
@@ -28,19 +31,20 @@ module _ (w : List ℕ) (p t : ℕ) where
   -- action m before those from m + 1 on
   pub scan-next :
       (m next : ℕ) → m ≤ started w → next ≡ nextAfter w t (recordsFrom w p (m + 1)) →
-      nextAfter w t (recordsFrom w p m) ≡ cond (isRecordOf w p m) (cond (isSooner w t m next) m next) next
+      nextAfter w t (recordsFrom w p m) ≡ cond (isSooner w t m next) (cond (isRecordOf w p m) m next) next
   unfolding recordsFrom keep nextAfter
-  scan-next m next h e = rw (left-next m (started w + 1) (omega arith), e) (taken (isRecordOf w p m))
+  scan-next m next h e = rw (left-next m (started w + 1) (omega arith), e) (taken (isRecordOf w p m) (isSooner w t m (nextAfter w t rest)) refl)
     where
       rest : List ℕ
       rest = recordsFrom w p (m + 1)
 
       taken :
-          (b : Bool) →
-          nextAfter w t (cond b (m ∷ rest) rest)
-          ≡ cond b (cond (isSooner w t m (nextAfter w t rest)) m (nextAfter w t rest)) (nextAfter w t rest)
-      taken true = refl
-      taken false = refl
+          (b sooner : Bool) → isSooner w t m (nextAfter w t rest) ≡ sooner →
+          nextAfter w t (cond b (m ∷ rest) rest) ≡ cond sooner (cond b m (nextAfter w t rest)) (nextAfter w t rest)
+      taken true true s = rw s
+      taken true false s = rw s
+      taken false true s = refl
+      taken false false s = refl
 
   -- from the first start on they are all
   pub scan-done : nextAfter w t (recordsFrom w p 1) ≡ nextAfter w t (records w p)
@@ -64,3 +68,60 @@ module _ (w : List ℕ) (n m : ℕ) (rest : Found) (k : ℕ) where
   pub accounts-done : accountCount ≤ k → searchFrom w n m rest k ≡ rest
   unfolding searchAccounts
   accounts-done h = rw (left-done k accountCount h)
+
+-- ---- where the search begins
+
+module _ (w : List ℕ) (n : ℕ) where
+  -- the smaller of a time and that of the read of account k, where there is one
+  soonerRead : ℕ → ℕ → ℕ
+  soonerRead k first = cond (hasRead w n k) (min (readTime w n k) first) first
+
+  -- what the accounts from k on make of the smallest time so far
+  pub firstReadFrom : ℕ → ℕ → ℕ
+  firstReadFrom k first = each soonerRead (upFrom k (accountCount - k)) first
+
+  pub first-all : firstRead w n ≡ firstReadFrom 0 (counter w)
+  unfolding firstRead accounts firstReadFrom soonerRead
+  first-all = refl
+
+  pub first-next :
+      (k first : ℕ) → k < accountCount →
+      firstReadFrom k first ≡ firstReadFrom (k + 1) (cond (hasRead w n k) (min (readTime w n k) first) first)
+  unfolding firstReadFrom soonerRead
+  first-next k first h = each-left-next soonerRead k accountCount first h
+
+  pub first-done : (k first : ℕ) → accountCount ≤ k → firstReadFrom k first ≡ first
+  unfolding firstReadFrom
+  first-done k first h = each-left-done soonerRead k accountCount first h
+
+  sooner-at-most : (k first : ℕ) → soonerRead k first ≤ first
+  unfolding soonerRead
+  sooner-at-most k first = cond-holds (λ t. t ≤ first) (hasRead w n k) (λ _. omega arith) (λ _. le-refl first)
+
+  sooner-reads : (k first : ℕ) → hasRead w n k ≡ true → soonerRead k first ≤ readTime w n k
+  unfolding soonerRead
+  sooner-reads k first read = rw read (omega arith)
+
+  each-at-most : (a j first : ℕ) → each soonerRead (upFrom a j) first ≤ first
+  each-at-most a j first =
+      each-keeps (λ t. t ≤ first) soonerRead a j (λ k h t low. omega (arith, sooner-at-most k t)) first (le-refl first)
+
+  each-reads :
+      (a j first k : ℕ) → Within a j k → hasRead w n k ≡ true → each soonerRead (upFrom a j) first ≤ readTime w n k
+  unfolding each upFrom
+  each-reads a zero first k h read = absurd (omega arith)
+  each-reads a (suc j) first k h read = go (ℕ-discrete k a) (λ later. each-reads (suc a) j (soonerRead a first) k later read)
+    where
+      rest : ℕ
+      rest = each soonerRead (upFrom (suc a) j) (soonerRead a first)
+
+      go : Dec (k ≡ a) → (Within (suc a) j k → rest ≤ readTime w n k) → rest ≤ readTime w n k
+      go (yes e) later =
+          let here = sooner-reads a first (rw e at read) in
+          rw e (omega (arith, each-at-most (suc a) j (soonerRead a first), here))
+      go (no ne) later = later (omega arith)
+
+  -- no account was read before it
+  pub first-reads : (k : ℕ) → k < accountCount → hasRead w n k ≡ true → firstRead w n ≤ readTime w n k
+  unfolding firstReadFrom
+  first-reads k h read = rw first-all (each-reads 0 accountCount (counter w) k (omega arith) read)

@@ -6,3 +6,5 @@ pub mod ClashSearch
 pub mod AbortMarks
 pub mod CommitCopies
 pub mod Listed
+pub mod AnswerWords
+pub mod ReadTimes

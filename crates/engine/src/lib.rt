@@ -1,6 +1,7 @@
 // The engine: every event, look and list of events, on a table and two stores that the caller lends.
 mod abort;
 mod act;
+pub mod answer;
 mod cards;
 mod cause;
 mod clash;

@@ -8,6 +8,7 @@ ghost use Rattle.rules.specs.Step.{step};
 ghost use Rattle.engine.specs.Place.{Stores};
 ghost use Rattle.engine.specs.Promise.{stateOf, outcomeOf};
 ghost use Rattle.engine.specs.Listed.{eventLength, eventAt, wordsOf, answerLength, withWords, listCause, listState, listAnswers};
+use crate::answer::words;
 use crate::cause::store_cause;
 use crate::event::sound_event;
 use rules::Answer;
@@ -31,15 +32,8 @@ fn store_answer(buffer: &mut [u64], at: usize, a: Answer)
     requires { ⌜ at + answerLength ≤ length (now buffer) ⌝ }
     ensures { λ r. ⌜ now (buffer .exit) ≡ withWords (now (buffer .entry)) at (wordsOf a) ⌝ }
 {
-    match a {
-        Answer::Refused(c) => store_words(buffer, at, 0, c, 0),
-        Answer::Started(n) => store_words(buffer, at, 1, n, 0),
-        Answer::Read(n) => store_words(buffer, at, 2, n, 0),
-        Answer::Written => store_words(buffer, at, 3, 0, 0),
-        Answer::Committed(t) => store_words(buffer, at, 4, t, 0),
-        Answer::Failed(t, k) => store_words(buffer, at, 5, t, k),
-        Answer::Aborted(n) => store_words(buffer, at, 6, n, 0),
-    }
+    let w = words(a);
+    store_words(buffer, at, w[0], w[1], w[2]);
 }
 
 // The event that stands at a place of the list.

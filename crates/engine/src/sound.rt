@@ -1,7 +1,7 @@
 // The test for a sound table, clause by clause.
 ghost use mathlib.Core.Path.{_≡_};
 ghost use mathlib.Core.Bool.{not, _||_};
-ghost use Prim.Native.Nat.{_-_, _≤_};
+ghost use Prim.Native.Nat.{_-_, _≤_, max};
 ghost use lib.Dec.{eqb, leb};
 ghost use Rattle.rules.specs.Range.{all, count};
 ghost use Rattle.rules.specs.Table.{mostActions, parentOf, hasEnd, isCommitted, actions};
@@ -63,6 +63,13 @@ fn is_in_time(entry: u64, now: u64) -> bool
     entry - 1 <= now
 }
 
+fn later(a: u64, b: u64) -> u64
+    ensures { λ r. ⌜ r ≡ max a b ⌝ }
+{
+    if a < b { b } else { a }
+}
+
+// The latest read alone is compared, so that the loop has no branch.
 fn has_read_in_time(table: &[u64], n: u64) -> bool
     requires { ⌜ Row (now table) n ⌝ }
     ensures { λ r. ⌜ r ≡ hasReadInTime (now (table .entry)) n ⌝ }
@@ -70,13 +77,11 @@ fn has_read_in_time(table: &[u64], n: u64) -> bool
     if !is_live(table, n) {
         return true;
     }
-    let now = counter(table);
+    let mut latest = 0;
     for k in 0..32 {
-        if !is_in_time(read_entry(table, n, k), now) {
-            return false;
-        }
+        latest = later(read_entry(table, n, k), latest);
     }
-    true
+    is_in_time(latest, counter(table))
 }
 
 fn has_ended(table: &[u64], n: u64) -> bool
@@ -103,18 +108,19 @@ fn has_end_in_time(table: &[u64], n: u64) -> bool
     end <= counter(table)
 }
 
+// The end times first: of most pairs they differ.
 fn is_twin(table: &[u64], n: u64, m: u64) -> bool
     requires { ⌜ Row (now table) n ⌝ }
     requires { ⌜ Row (now table) m ⌝ }
     ensures { λ r. ⌜ r ≡ isTwin (now (table .entry)) n m ⌝ }
 {
-    if !has_ended(table, m) {
+    if end_time(table, m) != end_time(table, n) {
         return false;
     }
     if parent(table, m) != parent(table, n) {
         return false;
     }
-    end_time(table, m) == end_time(table, n)
+    has_ended(table, m)
 }
 
 fn has_end_alone(table: &[u64], n: u64) -> bool

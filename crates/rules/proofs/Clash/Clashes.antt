@@ -99,7 +99,7 @@ empty-of-no-member : (cs : List Pair) → ((c : Pair) → List·Memᴰ c cs → 
 empty-of-no-member [] h = refl
 empty-of-no-member (c ∷ cs) h = absurd (h c (List·Memᴰ·head refl))
 
-clash-was-read : (w : List ℕ) (n m k : ℕ) → isClash w n m k ≡ true → hasRead w n k ≡ true
+pub clash-was-read : (w : List ℕ) (n m k : ℕ) → isClash w n m k ≡ true → hasRead w n k ≡ true
 clash-was-read w n m k h =
     and-right (hasWritten w m k) (hasRead w n k)
     (and-left (hasWritten w m k && hasRead w n k) (ltb (readTime w n k) (endTime w m)) h)

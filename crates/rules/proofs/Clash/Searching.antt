@@ -5,19 +5,19 @@ use native.Mathlib.Omega.{arith}
 use native.Mathlib.Decide.{ℕ-discrete}
 use mathlib.Core.Path.{_≡_, refl, sym, ap, _∙_}
 use mathlib.Core.Logic.{_↔_, _≢_, _⊎_, inl, inr, ⊎-elim, ⊎-map}
-use mathlib.Core.Bool.{true, false, cond}
+use mathlib.Core.Bool.{true, false, cond, _&&_}
 use mathlib.Core.List.{List, [], _∷_, List·Memᴰ, List·Memᴰ·head, List·Memᴰ·tail, List·Memᴰ·not-nil, List·Memᴰ·cases-cons}
 use lib.Dec.{ltb, eqb}
 use borrow.Author.Tests.{ltb-true, ltb-false, eqb-true, eq-eqb, ne-eqb}
 use Rattle.rules.specs.Range.{upFrom}
 use Rattle.rules.specs.Card.{accountCount, accounts}
-use Rattle.rules.specs.Table.{hasEnd, mostActions, started, counter, parentOf, endTime, isCommitted, actions, isChildOf, isRecordOf, records}
+use Rattle.rules.specs.Table.{hasEnd, mostActions, started, counter, parentOf, endTime, hasRead, readTime, hasWritten, isCommitted, actions, isChildOf, isRecordOf, records}
 use Rattle.rules.specs.Sound.{IsStarted, Sound}
 use Rattle.rules.specs.Clash.{isClash, Pair, Found, none, firstClash}
 use Rattle.rules.specs.Search.{nextAfter, searchAccounts, searchRecords, search}
 use Rattle.rules.proofs.Laws.Tests.{and-left, and-right, test, not-both}
 use Rattle.rules.proofs.Laws.Ranges.{Within, count-at-most}
-use Rattle.rules.proofs.Clash.Clashes.{in-records, IsClashing, in-clashes, IsFirstOf, Finds, finds-none, finds-at, finds-once, finds-same, firstClash-finds}
+use Rattle.rules.proofs.Clash.Clashes.{in-records, IsClashing, in-clashes, clash-was-read, IsFirstOf, Finds, finds-none, finds-at, finds-once, finds-same, firstClash-finds}
 
 -- ---- the next record
 
@@ -267,13 +267,27 @@ module _ (w : List ℕ) (n : ℕ) (s : Sound w) where
         finds-once (searchRecords-finds 63 (endTime w m) (omega arith)) (searchRecords-finds mostActions (endTime w m) (omega arith)),
       )
 
+-- What ended by the action's first read can't clash with it, so the search may begin at that time.
+pub search-after-finds :
+    (w : List ℕ) (n : ℕ) → Sound w →
+    (t : ℕ) → ((k : ℕ) → k < accountCount → hasRead w n k ≡ true → t ≤ readTime w n k) → searchAfter w n t ≡ firstClash w n
+search-after-finds w n s t first =
+    finds-once
+    (finds-same every-clash-after (searchRecords-finds w n s mostActions t (omega (arith, counter-at-most w s))))
+    (finds-same (in-clashes w n) (firstClash-finds w n))
+  where
+    read-before : (m k : ℕ) → isClash w n m k ≡ true → readTime w n k < endTime w m
+    read-before m k h = ltb-true _ _ (and-right (hasWritten w m k && hasRead w n k) (ltb (readTime w n k) (endTime w m)) h)
+
+    every-clash-after : (c : Pair) → ClashAfter w n t c ↔ IsClashing w n c
+    every-clash-after c = (
+      λ h. h .0,
+      λ h.
+          let read = first (c .account) (h .known) (clash-was-read w n (c .holder) (c .account) (h .clash)) in
+          (h, omega (arith, read, read-before (c .holder) (c .account) (h .clash))),
+    )
+
 -- "In the search both the records and the accounts are left at the first clash, records taken by rising end time."
 pub search-finds : (w : List ℕ) (n : ℕ) → Sound w → search w n ≡ firstClash w n
 unfolding search
-search-finds w n s =
-    finds-once
-    (finds-same every-clash-after-0 (searchRecords-finds w n s mostActions 0 (omega (arith, counter-at-most w s))))
-    (finds-same (in-clashes w n) (firstClash-finds w n))
-  where
-    every-clash-after-0 : (c : Pair) → ClashAfter w n 0 c ↔ IsClashing w n c
-    every-clash-after-0 c = (λ h. h .0, λ h. (h, clash-ends w n s c h .0))
+search-finds w n s = search-after-finds w n s 0 (λ k h read. omega arith)

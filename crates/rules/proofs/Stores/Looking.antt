@@ -13,7 +13,7 @@ use Rattle.rules.specs.Table.{mostActions}
 use Rattle.rules.specs.Event.{readBy}
 use Rattle.rules.specs.Cause.{storeCauses, eventCauses, causesOf, causeOf}
 use Rattle.rules.specs.Nearest.{nearest}
-use Rattle.rules.specs.Look.{lookCause, Part, emptyPart, cardPart, look, held}
+use Rattle.rules.specs.Look.{Looked, lookCause, Part, emptyPart, cardPart, look, held}
 use Rattle.rules.proofs.Laws.Tests.{cond-holds}
 use Rattle.rules.proofs.Laws.Walking.{nearest-started}
 use Rattle.rules.proofs.Sound.Soundness.{facts}
@@ -56,3 +56,11 @@ look-inside w base shadow n k h =
     let inShadowStore = line-fits (shadow-line shadow (nearest w n k) (a .shadowFits) few) k (a .accountKnown refl) in
     rw (look-given w base shadow n k h)
     (cond-holds (IsWholeCard base shadow) (eqb (nearest w n k) 0) (λ _. (refl, inBaseStore)) (λ _. (refl, inShadowStore)))
+
+-- a look's part, refused or not, is no longer than a card
+pub look-at-most-card : (w base shadow : List ℕ) (n k : ℕ) → look w base shadow n k .part .size ≤ cardLength
+unfolding look
+look-at-most-card w base shadow n k =
+    cond-holds (λ (l : Looked). l .part .size ≤ cardLength) (eqb (lookCause w base shadow n k) 0)
+    (λ _. cond-holds (λ (p : Part). p .size ≤ cardLength) (eqb (nearest w n k) 0) (λ _. omega arith) (λ _. omega arith))
+    (λ _. omega arith)

@@ -9,9 +9,9 @@ use Rattle.rules.specs.Card.{accountCount, accounts}
 use Rattle.rules.specs.Table.{counter, parentOf, endTime, records}
 use Rattle.rules.specs.Clash.{firstClash}
 use Rattle.rules.specs.Sound.{IsStarted}
-use Rattle.rules.specs.Search.{nextAfter, search as wholeSearch}
-use Rattle.rules.proofs.Clash.Searching.{searchAfter, search-none, search-next, next-started, search-finds}
-use Rattle.engine.proofs.ClashSearch.{searchFrom, accounts-here, accounts-next, accounts-done}
+use Rattle.rules.specs.Search.{nextAfter}
+use Rattle.rules.proofs.Clash.Searching.{searchAfter, search-none, search-next, next-started, search-after-finds}
+use Rattle.engine.proofs.ClashSearch.{searchFrom, accounts-here, accounts-next, accounts-done, first-reads}
 use Rattle.engine.proofs.clash.first_clash.Statement.{statement}
 use Rattle.engine.proofs.clash.first_clash.Tie as tie
 
@@ -31,27 +31,30 @@ abbrev μ-records : tie.MeasureT-records
 -- `m` is the next record after `last`
 is-next :
     (c : tie.After-next-record Inv-accounts μ-accounts Inv-records μ-records) →
-    let start = c .before .before .before .before in
+    let start = c .before .before .before .before .before in
     let table = start .args .table .now in
     c .next-record .result ≡ nextAfter table (c .before .records .last) (records table (parentOf table (start .args .n)))
-is-next c = rw (c .before .before .parent .ensures) at (c .next-record .ensures)
+is-next c = rw (c .before .before .before .parent .ensures) at (c .next-record .ensures)
 
 -- where there is one it is a started action, and ends above `last` and within the counter
 next-found :
     (c : tie.Else1 Inv-accounts μ-accounts Inv-records μ-records) →
-    let table = c .before .before .before .before .before .args .table .now in
+    let table = c .before .before .before .before .before .before .args .table .now in
     let m = c .before .next-record .result in
     IsStarted table m × (c .before .before .records .last < endTime table m) × (endTime table m ≤ counter table)
 next-found c =
-    let start = c .before .before .before .before .before in
+    let start = c .before .before .before .before .before .before in
     next-started _ (start .args .n) (start .pre .0) _ _ _ (is-next (c .before)) (c .if1 .left)
 
 parent-requires : tie.Need-parent-requires Inv-accounts μ-accounts Inv-records μ-records
 parent-requires c κs = search needs
 
+first-read-requires : tie.Need-first-read-requires Inv-accounts μ-accounts Inv-records μ-records
+first-read-requires c κs = search needs
+
 records-holds : tie.Need-records-holds Inv-accounts μ-accounts Inv-records μ-records
-unfolding wholeSearch
-records-holds c = sym (search-finds _ _ (c .before .before .pre .0))
+records-holds c =
+    rw (c .first-read .ensures) (sym (search-after-finds _ _ (c .before .before .before .pre .0) _ (first-reads _ _)))
 
 next-record-requires : tie.Need-next-record-requires Inv-accounts μ-accounts Inv-records μ-records
 next-record-requires c κs = search needs
@@ -62,7 +65,7 @@ end-time-requires c κs = let found = next-found c in search needs
 accounts-holds : tie.Need-accounts-holds Inv-accounts μ-accounts Inv-records μ-records
 unfolding accounts
 accounts-holds c =
-    let start = c .before .before .before .before .before .before in
+    let start = c .before .before .before .before .before .before .before in
     rw (c .end-time .ensures) (
       omega arith,
       c .before .before .before .records .inv
@@ -93,7 +96,7 @@ accounts-again c = (
 
 returns : tie.Need-returns Inv-accounts μ-accounts Inv-records μ-records
 returns c =
-    let start = c .before .before .before .before .before in
+    let start = c .before .before .before .before .before .before in
     sym (c .before .before .records .inv ∙ search-none _ _ (start .pre .0) _ _ (is-next (c .before)) (c .if1 .taken))
 
 returns-2 : tie.Need-returns-2 Inv-accounts μ-accounts Inv-records μ-records
@@ -112,6 +115,7 @@ first-clash-spec =
     Inv-records
     μ-records
     parent-requires
+    first-read-requires
     records-holds
     next-record-requires
     end-time-requires

@@ -25,11 +25,11 @@ last-start-requires c κs = search needs
 loop-holds : tie.Need-loop-holds Inv-loop μ-loop
 loop-holds c = rw (c .last-start .ensures) (le-refl _, omega arith, sym (scan-start _ _ _))
 
-is-record-requires : tie.Need-is-record-requires Inv-loop μ-loop
-is-record-requires c κs = search needs
-
 is-sooner-requires : tie.Need-is-sooner-requires Inv-loop μ-loop
 is-sooner-requires c κs = search needs
+
+is-record-requires : tie.Need-is-record-requires Inv-loop μ-loop
+is-record-requires c κs = search needs
 
 sub-m : tie.Need-sub-m Inv-loop μ-loop
 sub-m c = omega arith
@@ -45,7 +45,7 @@ loop-again c =
     rw (
       back,
       scan-next (args .table .now) (args .p) (args .t) (loop .m) (loop .next) (loop .inv .0) (loop .inv .2),
-      ← c .before .is-record .ensures,
+      ← c .before .is-sooner .ensures,
     )
     (⊎-elim
     (λ v. rw (v .3, v .0 .taken, ← v .1 .ensures, v .2 .taken) (omega arith, loop .inv .0, refl))
@@ -65,8 +65,8 @@ next-record-spec =
     μ-loop
     last-start-requires
     loop-holds
-    is-record-requires
     is-sooner-requires
+    is-record-requires
     sub-m
     loop-less
     loop-again

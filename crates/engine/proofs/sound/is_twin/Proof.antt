@@ -1,16 +1,28 @@
--- `is_twin` meets its contract: each exit is decided by the tests that led there, in the definition's order.
--- Assumes nothing.
-use borrow.Author.Needs.{needs}
+-- `is_twin` meets its contract: each exit is decided by the tests that led there; that the definition asks them in another
+-- order makes no difference. Assumes nothing.
+use mathlib.Core.Path.{sym, _∙_}
+use mathlib.Core.Bool.{true, _&&_}
 use borrow.Author.Tests.{eq-eqb, ne-eqb}
-use Rattle.engine.proofs.Negated.{failed, held}
+use Rattle.rules.specs.Table.{hasEnd}
+use Rattle.rules.proofs.Laws.Tests.{and-true, and-false}
+use borrow.Author.Needs.{needs}
 use Rattle.engine.proofs.sound.is_twin.Statement.{statement}
 use Rattle.engine.proofs.sound.is_twin.Tie as tie
 
-has-ended-requires : tie.Need-has-ended-requires
-has-ended-requires c κs = search needs
+end-time-requires : tie.Need-end-time-requires
+end-time-requires c κs = search needs
+
+end-time-requires-2 : tie.Need-end-time-requires-2
+end-time-requires-2 c κs = search needs
 
 returns : tie.Need-returns
-returns c = rw (failed (c .before .has-ended .ensures) (c .if1 .taken))
+returns c =
+    rw (
+      ← c .before .before .end-time .ensures,
+      ← c .before .end-time2 .ensures,
+      ne-eqb _ _ (c .if1 .taken),
+      and-false,
+    )
 
 parent-requires : tie.Need-parent-requires
 parent-requires c κs = search needs
@@ -21,38 +33,39 @@ parent-requires-2 c κs = search needs
 returns-2 : tie.Need-returns-2
 returns-2 c =
     rw (
-      held (c .before .before .before .before .has-ended .ensures) (c .before .before .before .if1 .left),
       ← c .before .before .parent .ensures,
       ← c .before .parent2 .ensures,
       ne-eqb _ _ (c .if2 .taken),
+      and-false,
     )
 
-end-time-requires : tie.Need-end-time-requires
-end-time-requires c κs = search needs
-
-end-time-requires-2 : tie.Need-end-time-requires-2
-end-time-requires-2 c κs = search needs
+has-ended-requires : tie.Need-has-ended-requires
+has-ended-requires c κs = search needs
 
 returns-3 : tie.Need-returns-3
 returns-3 c =
+    let given = c .before .before .before .before .before .before .before .before .args in
+    let ended = hasEnd (given .table .now) (given .m) in
     rw (
-      held (c .before .before .before .before .before .before .has-ended .ensures) (c .before .before .before .before .before .if1 .left),
-      ← c .before .before .before .before .parent .ensures,
-      ← c .before .before .before .parent2 .ensures,
-      eq-eqb _ _ (c .before .before .if2 .left),
-      c .before .end-time .ensures,
-      c .end-time2 .ensures,
+      c .has-ended .ensures,
+      ← c .before .before .before .parent .ensures,
+      ← c .before .before .parent2 .ensures,
+      eq-eqb _ _ (c .before .if2 .left),
+      ← c .before .before .before .before .before .before .end-time .ensures,
+      ← c .before .before .before .before .before .end-time2 .ensures,
+      eq-eqb _ _ (c .before .before .before .before .if1 .left),
     )
+    (sym (and-true (ended && true) ∙ and-true ended))
 
 pub is-twin-spec : {M : Type 1} → statement M
 is-twin-spec =
     tie.close
     (tie.spec
-    has-ended-requires
+    end-time-requires
+    end-time-requires-2
     returns
     parent-requires
     parent-requires-2
     returns-2
-    end-time-requires
-    end-time-requires-2
+    has-ended-requires
     returns-3)

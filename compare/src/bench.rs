@@ -1,0 +1,221 @@
+//! The library over its C ABI beside the second engine, in one run: rounds interleaved, medians.
+
+use crate::dayfile::{event_bytes, run_day};
+use crate::generate::{day_file, events, Shape};
+use crate::library::{encode, Lent, LISTING, ROW, WORDS};
+use crate::model::{Event, State, World, BASE, CARD, SHADOW};
+use crate::random::Random;
+use std::fmt::Write;
+use std::hint::black_box;
+use std::time::Instant;
+
+const ROUNDS: usize = 15;
+
+struct Row {
+    what: String,
+    ours: f64,
+    plain: f64,
+    ratio: f64,
+}
+
+fn median(mut values: Vec<f64>) -> f64 {
+    values.sort_by(f64::total_cmp);
+    values[values.len() / 2]
+}
+
+/// Nanoseconds for one call of `f`, over a few milliseconds of calls.
+fn time(times: u32, f: &mut dyn FnMut()) -> f64 {
+    let start = Instant::now();
+    for _ in 0..times {
+        f();
+    }
+    start.elapsed().as_nanos() as f64 / times as f64
+}
+
+fn measure(what: &str, ours: &mut dyn FnMut(), plain: &mut dyn FnMut()) -> Row {
+    let once = time(20, plain).max(time(20, ours)).max(1.0);
+    let times = (4e6 / once).clamp(20.0, 200_000.0) as u32;
+    let (mut a, mut b, mut ratios) = (Vec::new(), Vec::new(), Vec::new());
+    for _ in 0..ROUNDS {
+        let (x, y) = (time(times, ours), time(times, plain));
+        a.push(x);
+        b.push(y);
+        ratios.push(x / y);
+    }
+    Row { what: what.to_string(), ours: median(a), plain: median(b), ratio: median(ratios) }
+}
+
+fn lend(w: &World) -> Lent {
+    let mut table = vec![0; WORDS];
+    encode(&w.table, &mut table);
+    Lent { table, base: w.base.clone(), shadow: w.shadow.clone() }
+}
+
+fn new_world() -> World {
+    World::new(vec![1; BASE], vec![0; SHADOW])
+}
+
+fn of(code: u64, number: u64, account: u64) -> Event {
+    Event { code, number, account, card: vec![7; CARD] }
+}
+
+/// A whole day: file to listing, and its events alone.
+fn days(rows: &mut Vec<Row>) {
+    for (name, shape) in [("deep", Shape::Deep), ("wide", Shape::Wide), ("mixed", Shape::Mixed)] {
+        let list = events(&mut Random::new(7), 1000, shape, true);
+        let file = day_file(&[], &list);
+        let (mut lent, mut buffer) = (lend(&new_world()), Box::new([0; LISTING]));
+        rows.push(measure(
+            &format!("a day of 1,000 events, {name}: file to listing"),
+            &mut || {
+                black_box(lent.day(&file, &mut buffer));
+            },
+            &mut || {
+                black_box(run_day(&file, vec![0; SHADOW]));
+            },
+        ));
+        let bytes = event_bytes(&list);
+        let (mut lent, mut words, mut world) = (lend(&new_world()), vec![0; 3000], new_world());
+        rows.push(measure(
+            &format!("a day of 1,000 events, {name}: the events alone"),
+            &mut || {
+                lent.open();
+                black_box(lent.run(&bytes, &mut words));
+            },
+            &mut || {
+                world.table = crate::model::Table::new();
+                black_box(list.iter().map(|e| world.sound_event(e)).last());
+            },
+        ));
+    }
+}
+
+/// Siblings under the store; each but the first has written its account and committed.
+fn siblings(count: u64) -> World {
+    let mut w = new_world();
+    for _ in 0..count {
+        w.event(&of(1, 0, 0));
+    }
+    for n in 2..=count {
+        w.event(&of(3, n, n % 31));
+        w.event(&of(4, n, 0));
+    }
+    w
+}
+
+/// One below the other; the first alone has written account 0.
+fn chain(depth: u64) -> World {
+    let mut w = new_world();
+    w.event(&of(1, 0, 0));
+    w.event(&of(3, 1, 0));
+    for n in 1..depth {
+        w.event(&of(1, n, 0));
+    }
+    w
+}
+
+fn single_events(rows: &mut Vec<Row>) {
+    for count in [2, 64] {
+        let mut world = siblings(count);
+        let mut lent = lend(&world);
+        let write = of(3, 1, 31);
+        rows.push(measure(
+            &format!("a write beside {} siblings", count - 1),
+            &mut || {
+                black_box(lent.event(&write));
+            },
+            &mut || {
+                black_box(world.event(&write));
+            },
+        ));
+    }
+}
+
+fn looks(rows: &mut Vec<Row>) {
+    for depth in [1, 10, 64] {
+        let world = chain(depth);
+        let lent = lend(&world);
+        rows.push(measure(
+            &format!("a look at depth {depth}"),
+            &mut || {
+                black_box(lent.look(depth, 0)).ok();
+            },
+            &mut || {
+                black_box(world.look(depth, 0)).ok();
+            },
+        ));
+    }
+}
+
+/// A commit that finds no clash. The action is made live again after each, by one store.
+fn searches(rows: &mut Vec<Row>) {
+    for count in [3, 64] {
+        let mut world = siblings(count);
+        for k in 0..31 {
+            world.event(&of(2, 1, k));
+        }
+        let mut lent = lend(&world);
+        let commit = of(4, 1, 0);
+        rows.push(measure(
+            &format!("a commit searched against {} siblings", count - 1),
+            &mut || {
+                black_box(lent.event(&commit));
+                lent.table[ROW + 1] = 1;
+            },
+            &mut || {
+                black_box(world.event(&commit));
+                world.table.actions[0].state = State::Live;
+            },
+        ));
+    }
+}
+
+fn growth(rows: &mut Vec<Row>) {
+    for power in 0..7 {
+        let count = 1 << power;
+        let mut world = siblings(count);
+        let mut lent = lend(&world);
+        let read = of(2, 1, 31);
+        rows.push(measure(
+            &format!("a read with {count} actions started"),
+            &mut || {
+                black_box(lent.event(&read));
+            },
+            &mut || {
+                black_box(world.event(&read));
+            },
+        ));
+    }
+}
+
+fn table(rows: &[Row]) -> String {
+    let mut text = String::from("| What | library, ns | plain Rust, ns | ratio |\n|---|---|---|---|\n");
+    for r in rows {
+        writeln!(text, "| {} | {:.0} | {:.0} | {:.2} |", r.what, r.ours, r.plain, r.ratio).expect("a string grows");
+    }
+    text
+}
+
+/// Puts the table between the two marks of a file.
+fn write_between(path: &str, table: &str) -> Result<(), String> {
+    let (open, close) = ("<!-- figures -->\n", "<!-- end of figures -->");
+    let text = std::fs::read_to_string(path).map_err(|e| format!("{path}: {e}"))?;
+    let from = text.find(open).ok_or(format!("{path} has no line {open}"))? + open.len();
+    let to = text.find(close).ok_or(format!("{path} has no line {close}"))?;
+    std::fs::write(path, format!("{}{table}{}", &text[..from], &text[to..])).map_err(|e| format!("{path}: {e}"))
+}
+
+pub fn bench(file: Option<&str>) -> Result<i32, String> {
+    let mut rows = Vec::new();
+    days(&mut rows);
+    single_events(&mut rows);
+    looks(&mut rows);
+    searches(&mut rows);
+    growth(&mut rows);
+    let table = table(&rows);
+    print!("{table}");
+    if let Some(path) = file {
+        write_between(path, &table)?;
+    }
+    Ok(0)
+}

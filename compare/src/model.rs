@@ -1,0 +1,352 @@
+//! The second engine: document 01 with actions as structs. It shares no code and no shape with the
+//! library, and was written from the paper alone.
+
+pub const ACCOUNTS: usize = 32;
+pub const CARD: usize = 32;
+pub const BASE: usize = 1024;
+pub const SHADOW: usize = 65536;
+pub const ACTIONS: usize = 64;
+
+pub type Card = [u8; CARD];
+
+#[derive(Clone, Copy, PartialEq, Eq, Debug)]
+pub enum State {
+    Live,
+    Committed,
+    Aborted,
+    Unknown(u64),
+}
+
+#[derive(Clone, PartialEq, Eq, Debug)]
+pub struct Action {
+    pub parent: u64,
+    pub state: State,
+    pub end: u64,
+    /// The time of the first read, for each account in the read set.
+    pub reads: [Option<u64>; ACCOUNTS],
+    /// Not 0 for each account in the write set.
+    pub writes: [u64; ACCOUNTS],
+}
+
+impl Action {
+    pub fn new(parent: u64) -> Action {
+        Action { parent, state: State::Live, end: 0, reads: [None; ACCOUNTS], writes: [0; ACCOUNTS] }
+    }
+
+    fn wrote_something(&self) -> bool {
+        self.writes.iter().any(|&w| w != 0)
+    }
+
+    fn is_writer(&self) -> bool {
+        self.state == State::Committed && self.wrote_something()
+    }
+}
+
+#[derive(Clone, PartialEq, Eq, Debug)]
+pub struct Table {
+    pub started: u64,
+    pub counter: u64,
+    /// Action n is the entry n - 1; entries above the last start may hold anything.
+    pub actions: Vec<Action>,
+}
+
+/// Why a table is not sound.
+#[derive(Clone, Copy, PartialEq, Eq, Debug)]
+pub enum Unsound {
+    Started,
+    Counter,
+    State,
+    ParentNotBelow,
+    ParentNotLive,
+    ReadTime,
+    EndTime,
+    EndTimeTwice,
+}
+
+impl Table {
+    pub fn new() -> Table {
+        let nothing = Action { state: State::Unknown(0), ..Action::new(0) };
+        Table { started: 0, counter: 0, actions: vec![nothing; ACTIONS] }
+    }
+
+    pub fn action(&self, n: u64) -> &Action {
+        &self.actions[n as usize - 1]
+    }
+
+    fn action_mut(&mut self, n: u64) -> &mut Action {
+        &mut self.actions[n as usize - 1]
+    }
+
+    fn begun(&self) -> &[Action] {
+        &self.actions[..self.started as usize]
+    }
+
+    pub fn soundness(&self) -> Result<(), Unsound> {
+        if self.started > ACTIONS as u64 {
+            return Err(Unsound::Started);
+        }
+        let begun = self.begun();
+        if self.counter > begun.iter().filter(|a| a.state == State::Committed).count() as u64 {
+            return Err(Unsound::Counter);
+        }
+        for (i, a) in begun.iter().enumerate() {
+            self.action_soundness(i, a)?;
+        }
+        Ok(())
+    }
+
+    fn action_soundness(&self, i: usize, a: &Action) -> Result<(), Unsound> {
+        if let State::Unknown(_) = a.state {
+            return Err(Unsound::State);
+        }
+        if a.parent > i as u64 {
+            return Err(Unsound::ParentNotBelow);
+        }
+        if a.state == State::Live {
+            if a.parent != 0 && self.action(a.parent).state != State::Live {
+                return Err(Unsound::ParentNotLive);
+            }
+            if a.reads.iter().flatten().any(|&t| t > self.counter) {
+                return Err(Unsound::ReadTime);
+            }
+        }
+        if a.is_writer() {
+            if a.end < 1 || a.end > self.counter {
+                return Err(Unsound::EndTime);
+            }
+            let twin = |b: &Action| b.end == a.end && b.parent == a.parent && b.is_writer();
+            if self.actions[..i].iter().any(twin) {
+                return Err(Unsound::EndTimeTwice);
+            }
+        }
+        Ok(())
+    }
+
+    fn has_live_child(&self, n: u64) -> bool {
+        self.begun().iter().any(|a| a.parent == n && a.state == State::Live)
+    }
+
+    fn is_at_or_below(&self, mut n: u64, top: u64) -> bool {
+        while n != 0 {
+            if n == top {
+                return true;
+            }
+            n = self.action(n).parent;
+        }
+        false
+    }
+
+    /// The action whose card is the nearest version, 0 for the base store.
+    pub fn nearest(&self, mut n: u64, account: usize) -> u64 {
+        while n != 0 {
+            let a = self.action(n);
+            if a.writes[account] != 0 {
+                return n;
+            }
+            n = a.parent;
+        }
+        0
+    }
+
+    /// The clash with the smallest end time and, within that, the smallest account.
+    pub fn first_clash(&self, n: u64) -> Option<(u64, u64)> {
+        let me = self.action(n);
+        let mut first = None;
+        for b in self.begun() {
+            if b.state != State::Committed || b.parent != me.parent {
+                continue;
+            }
+            for k in 0..ACCOUNTS {
+                let read_before = matches!(me.reads[k], Some(t) if t < b.end);
+                if b.writes[k] != 0 && read_before {
+                    let clash = (b.end, k as u64);
+                    first = Some(first.map_or(clash, |f: (u64, u64)| f.min(clash)));
+                }
+            }
+        }
+        first
+    }
+}
+
+#[derive(Clone, PartialEq, Eq, Debug)]
+pub struct Event {
+    pub code: u64,
+    pub number: u64,
+    pub account: u64,
+    pub card: Vec<u8>,
+}
+
+#[derive(Clone, Copy, PartialEq, Eq, Debug)]
+pub enum Answer {
+    Refused(u64),
+    Started(u64),
+    Read(u64),
+    Written,
+    Committed(u64),
+    Failed(u64, u64),
+    Aborted(u64),
+}
+
+/// A table and its two stores.
+#[derive(Clone, PartialEq, Eq, Debug)]
+pub struct World {
+    pub table: Table,
+    pub base: Vec<u8>,
+    pub shadow: Vec<u8>,
+}
+
+fn shadow_place(n: u64, account: usize) -> usize {
+    1024 * (n as usize - 1) + 32 * account
+}
+
+impl World {
+    pub fn new(base: Vec<u8>, shadow: Vec<u8>) -> World {
+        World { table: Table::new(), base, shadow }
+    }
+
+    /// Causes 1 and 2, which any call has.
+    pub fn stores_cause(&self) -> Option<u64> {
+        if self.base.len() != BASE || self.shadow.len() != SHADOW {
+            return Some(1);
+        }
+        self.table.soundness().err().map(|_| 2)
+    }
+
+    /// Causes 3 to 9.
+    fn event_cause(&self, e: &Event) -> Option<u64> {
+        let t = &self.table;
+        if !(1..=5).contains(&e.code) {
+            return Some(3);
+        }
+        let starts = e.code == 1;
+        if e.number > t.started || (e.number == 0 && !starts) {
+            return Some(4);
+        }
+        if e.number != 0 && t.action(e.number).state != State::Live {
+            return Some(5);
+        }
+        if starts {
+            return (t.started >= ACTIONS as u64).then_some(6);
+        }
+        let on_account = e.code == 2 || e.code == 3;
+        if on_account && e.account >= ACCOUNTS as u64 {
+            return Some(7);
+        }
+        if e.code == 3 && e.card.len() != CARD {
+            return Some(8);
+        }
+        (e.code != 5 && t.has_live_child(e.number)).then_some(9)
+    }
+
+    /// One event on any table and stores.
+    pub fn event(&mut self, e: &Event) -> Answer {
+        match self.stores_cause() {
+            Some(cause) => Answer::Refused(cause),
+            None => self.sound_event(e),
+        }
+    }
+
+    /// One event on a sound table over stores that fit.
+    pub fn sound_event(&mut self, e: &Event) -> Answer {
+        if let Some(cause) = self.event_cause(e) {
+            return Answer::Refused(cause);
+        }
+        match e.code {
+            1 => self.start(e.number),
+            2 => self.read(e.number, e.account as usize),
+            3 => self.write(e.number, e.account as usize, &e.card),
+            4 => self.commit(e.number),
+            _ => self.abort(e.number),
+        }
+    }
+
+    fn start(&mut self, parent: u64) -> Answer {
+        self.table.started += 1;
+        let n = self.table.started;
+        *self.table.action_mut(n) = Action::new(parent);
+        Answer::Started(n)
+    }
+
+    fn read(&mut self, n: u64, account: usize) -> Answer {
+        let now = self.table.counter;
+        self.table.action_mut(n).reads[account].get_or_insert(now);
+        Answer::Read(self.table.nearest(n, account))
+    }
+
+    fn write(&mut self, n: u64, account: usize, card: &[u8]) -> Answer {
+        let at = shadow_place(n, account);
+        self.shadow[at..at + CARD].copy_from_slice(card);
+        self.table.action_mut(n).writes[account] = 1;
+        Answer::Written
+    }
+
+    fn commit(&mut self, n: u64) -> Answer {
+        if let Some((end, account)) = self.table.first_clash(n) {
+            self.table.action_mut(n).state = State::Aborted;
+            return Answer::Failed(end, account);
+        }
+        let wrote = self.table.action(n).wrote_something();
+        if wrote {
+            self.table.counter += 1;
+        }
+        let end = if wrote { self.table.counter } else { 0 };
+        let me = self.table.action_mut(n);
+        me.state = State::Committed;
+        me.end = end;
+        let me = me.clone();
+        self.hand_up_cards(n, &me);
+        if me.parent != 0 {
+            join(self.table.action_mut(me.parent), &me);
+        }
+        Answer::Committed(end)
+    }
+
+    fn hand_up_cards(&mut self, n: u64, me: &Action) {
+        for k in (0..ACCOUNTS).filter(|&k| me.writes[k] != 0) {
+            let from = shadow_place(n, k);
+            if me.parent == 0 {
+                self.base[CARD * k..CARD * (k + 1)].copy_from_slice(&self.shadow[from..from + CARD]);
+            } else {
+                let to = shadow_place(me.parent, k);
+                self.shadow.copy_within(from..from + CARD, to);
+            }
+        }
+    }
+
+    fn abort(&mut self, n: u64) -> Answer {
+        let fallen: Vec<u64> = (1..=self.table.started)
+            .filter(|&m| self.table.action(m).state == State::Live && self.table.is_at_or_below(m, n))
+            .collect();
+        for &m in &fallen {
+            self.table.action_mut(m).state = State::Aborted;
+        }
+        Answer::Aborted(fallen.len() as u64)
+    }
+
+    /// The card at the nearest version, or why it can't be had.
+    pub fn look(&self, n: u64, account: u64) -> Result<Card, u64> {
+        let read = Event { code: 2, number: n, account, card: Vec::new() };
+        if let Some(cause) = self.stores_cause().or_else(|| self.event_cause(&read)) {
+            return Err(cause);
+        }
+        let k = account as usize;
+        let part = match self.table.nearest(n, k) {
+            0 => &self.base[CARD * k..],
+            m => &self.shadow[shadow_place(m, k)..],
+        };
+        Ok(part[..CARD].try_into().expect("a card's length"))
+    }
+}
+
+/// The union of the sets; where both have read an account, the smaller time stays.
+fn join(parent: &mut Action, child: &Action) {
+    for k in 0..ACCOUNTS {
+        parent.reads[k] = match (parent.reads[k], child.reads[k]) {
+            (Some(a), Some(b)) => Some(a.min(b)),
+            (a, b) => a.or(b),
+        };
+        if child.writes[k] != 0 {
+            parent.writes[k] = 1;
+        }
+    }
+}

@@ -1,0 +1,2 @@
+-- What a copy to the caller's card leaves there.
+mod CopiedCard

@@ -1,0 +1,49 @@
+-- The three numbers handed back are the words of the answer, which says what the rule's answer says. Assumes nothing.
+use mathlib.Core.Path.{_∙_}
+use borrow.Author.Needs.{needs}
+use Rattle.engine.proofs.AnswerWords.{three-words, words-given}
+use Rattle.capi.proofs.mundzavch_event.Statement.{statement}
+use Rattle.capi.proofs.mundzavch_event.Tie as tie
+
+event-requires : tie.Need-event-requires
+event-requires c κs = search needs
+
+words-requires : tie.Need-words-requires
+words-requires c κs = search needs
+
+array-read-first : tie.Need-array-read-first
+array-read-first c = search needs
+
+array-read-second : tie.Need-array-read-second
+array-read-second c = search needs
+
+array-read-result : tie.Need-array-read-result
+array-read-result c = search needs
+
+same-length : tie.Need-same-length
+same-length c = search needs
+
+same-length-2 : tie.Need-same-length-2
+same-length-2 c = search needs
+
+same-length-3 : tie.Need-same-length-3
+same-length-3 c = search needs
+
+returns : tie.Need-returns
+returns c =
+    let event = c .before .before .before .before .before .before .before .event in
+    (rw (c .words .ensures) (three-words (event .result) ∙ words-given (event .ensures)), event .ensures .leaves)
+
+pub mundzavch-event-spec : {M : Type 1} → statement M
+mundzavch-event-spec =
+    tie.close
+    (tie.spec
+    event-requires
+    words-requires
+    array-read-first
+    array-read-second
+    array-read-result
+    same-length
+    same-length-2
+    same-length-3
+    returns)
