@@ -53,7 +53,7 @@ enum {
     MUNDZAVCH_ABORTED = 6    /* first: how many actions became aborted */
 };
 
-/* Makes a new table of the words, whatever they held. Returns 0, or 2 where `words` is another number than a table has. */
+/* Makes a new table of the words, whatever they held. Returns 0, or 2 where `words` is not MUNDZAVCH_TABLE_WORDS. */
 uint64_t mundzavch_open(uint64_t *table, size_t words);
 
 /* The actions started, and the counter: 0 where a table is too short to have them. */
@@ -67,7 +67,7 @@ uint64_t mundzavch_event(uint64_t *table, size_t words, uint8_t *base, size_t ba
                          size_t card_bytes, uint64_t *first, uint64_t *second);
 
 /* The card that a read of this action and account would be given now, copied to the 32 bytes at `card`; nothing is
- * recorded. Returns 0, or the number with which the read would be refused, and `card` stays. Refusals: 1, 2, 4, 5, 7, 9. */
+ * recorded. Returns 0, or the number with which the read would be refused (1, 2, 4, 5, 7 or 9), and `card` stays. */
 uint64_t mundzavch_look(const uint64_t *table, size_t words, const uint8_t *base, size_t base_bytes,
                         const uint8_t *shadow, size_t shadow_bytes, uint64_t number, uint64_t account, uint8_t *card);
 
@@ -78,8 +78,8 @@ uint64_t mundzavch_run(uint64_t *table, size_t words, uint8_t *base, size_t base
                        size_t answers_words);
 
 /* A whole day file, run on a new table over its opening cards. Returns the length of its listing, which stands at the
- * front of the MUNDZAVCH_LISTING_BYTES bytes at `listing`; those behind it stay. A day that is refused (1, 2, 10, 11, 12)
- * lists one line, `refused` and the number; table and stores stay. */
+ * front of the MUNDZAVCH_LISTING_BYTES bytes at `listing`; those behind it stay. A day that is refused (1, 2, 10, 11 or
+ * 12) lists one line, `refused` and the number; table and stores stay. */
 size_t mundzavch_day(const uint8_t *file, size_t file_bytes, uint64_t *table, size_t words, uint8_t *base,
                      size_t base_bytes, uint8_t *shadow, size_t shadow_bytes, uint8_t *listing);
 

@@ -13,6 +13,7 @@ pub struct Coverage {
     pub table_length: u64,
     pub lists: u64,
     pub list_calls: u64,
+    list_refusals: BTreeMap<u64, u64>,
     pub serial_reads: u64,
     pub damaged: u64,
     days: u64,
@@ -45,6 +46,13 @@ impl Coverage {
         }
     }
 
+    pub fn list_call(&mut self, cause: u64) {
+        self.list_calls += 1;
+        if cause != 0 {
+            *self.list_refusals.entry(cause).or_default() += 1;
+        }
+    }
+
     pub fn day(&mut self, listing: &str) {
         self.days += 1;
         if let Some(fault) = listing.strip_prefix("refused ").and_then(|f| f.trim_end().parse().ok()) {
@@ -69,7 +77,8 @@ impl fmt::Display for Coverage {
     fn fmt(&self, f: &mut fmt::Formatter) -> fmt::Result {
         row(f, "answers", &self.answers)?;
         row(f, "refusals by number", &self.refusals)?;
-        writeln!(f, "lists: {}, of these also in one call: {}", self.lists, self.list_calls)?;
+        writeln!(f, "lists: {}, lists in one call: {}", self.lists, self.list_calls)?;
+        row(f, "lists in one call refused by number", &self.list_refusals)?;
         writeln!(f, "reads held to the serial run: {}", self.serial_reads)?;
         writeln!(f, "damaged tables and stores: {}", self.damaged)?;
         row(f, "unsound by clause", &self.unsound)?;

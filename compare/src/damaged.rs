@@ -1,5 +1,6 @@
-//! Single events on tables and stores that are damaged, or look so.
+//! Single events, and the other calls, on tables and stores that are damaged, or look so.
 
+use crate::calls::{list_call, open_and_totals};
 use crate::coverage::Coverage;
 use crate::generate::{damage, event, events, shape, DAMAGES};
 use crate::library::{decode, encode, Lent};
@@ -28,7 +29,7 @@ fn expected(lent: &Lent, e: &Event, seen: &mut Coverage) -> (Answer, Lent, Resul
     (a, Lent { table: words, base: world.base, shadow: world.shadow }, look)
 }
 
-/// One event on a table that a list left, after one or two kinds of damage.
+/// Every call on a table that a list left, after one or two kinds of damage.
 fn damaged(seed: u64, history: &[Event], seen: &mut Coverage) -> Compared {
     let mut r = Random::new(seed);
     let opening = Opening { base: vec![3; BASE], shadow: vec![5; SHADOW] };
@@ -42,6 +43,8 @@ fn damaged(seed: u64, history: &[Event], seen: &mut Coverage) -> Compared {
         let kind = r.below(DAMAGES);
         damage(&mut r, kind, &mut lent);
     }
+    list_call(&mut r, &lent, &world, seen)?;
+    open_and_totals(&lent)?;
     let shape = shape(&mut r);
     let e = event(&mut r, &world, shape, false);
     let (a, after, look) = expected(&lent, &e, seen);

@@ -27,7 +27,7 @@ pub fn parse(file: &[u8]) -> Result<Day, u64> {
         return Err(10);
     }
     let base = opening_base(opening).ok_or(12u64)?;
-    Ok(Day { base, events: events.chunks(35).map(event).collect() })
+    Ok(Day { base, events: events.chunks(35).map(event_of).collect() })
 }
 
 fn opening_base(opening: &[u8]) -> Option<Vec<u8>> {
@@ -44,7 +44,8 @@ fn opening_base(opening: &[u8]) -> Option<Vec<u8>> {
     Some(base)
 }
 
-fn event(bytes: &[u8]) -> Event {
+/// An event from its 35 bytes.
+pub fn event_of(bytes: &[u8]) -> Event {
     Event { code: bytes[0] as u64, number: bytes[1] as u64, account: bytes[2] as u64, card: bytes[3..].to_vec() }
 }
 

@@ -180,6 +180,18 @@ pub fn answer(words: [u64; 3]) -> Answer {
     a
 }
 
+pub fn answer_words(a: Answer) -> [u64; 3] {
+    match a {
+        Answer::Refused(c) => [0, c, 0],
+        Answer::Started(n) => [1, n, 0],
+        Answer::Read(n) => [2, n, 0],
+        Answer::Written => [3, 0, 0],
+        Answer::Committed(t) => [4, t, 0],
+        Answer::Failed(t, k) => [5, t, k],
+        Answer::Aborted(n) => [6, n, 0],
+    }
+}
+
 fn state(word: u64) -> State {
     match word {
         1 => State::Live,

@@ -97,7 +97,8 @@ pub fn check_lists(count: u64, seed: u64, seen: &mut Coverage) -> Compared {
     while done < count {
         let opening = Opening::any(&mut r);
         let (shape, in_bytes) = (shape(&mut r), r.one_in(2));
-        let length = 1 + r.below(250) as usize;
+        let longest = *r.pick(&[50, 250, 250, 250, 700]);
+        let length = 1 + r.below(longest) as usize;
         let events = events(&mut r, length, shape, in_bytes);
         if let Err(text) = list(&opening, &events, seen) {
             let small = smallest_list(&events, |part| list(&opening, part, &mut Coverage::default()).is_err());

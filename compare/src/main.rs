@@ -1,6 +1,7 @@
 //! compare: the library beside a second engine, by results (`check`) and by time (`bench`).
 
 mod bench;
+mod calls;
 mod check;
 mod coverage;
 mod damaged;
