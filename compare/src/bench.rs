@@ -120,7 +120,7 @@ fn single_events(rows: &mut Vec<Row>) {
         let mut lent = lend(&world);
         let write = of(3, 1, 31);
         rows.push(measure(
-            &format!("a write beside {} siblings", count - 1),
+            &format!("a write, siblings: {}", count - 1),
             &mut || {
                 black_box(lent.event(&write));
             },
@@ -136,7 +136,7 @@ fn looks(rows: &mut Vec<Row>) {
         let world = chain(depth);
         let lent = lend(&world);
         rows.push(measure(
-            &format!("a look at depth {depth}"),
+            &format!("a look, depth: {depth}"),
             &mut || {
                 black_box(lent.look(depth, 0)).ok();
             },
@@ -157,7 +157,7 @@ fn searches(rows: &mut Vec<Row>) {
         let mut lent = lend(&world);
         let commit = of(4, 1, 0);
         rows.push(measure(
-            &format!("a commit searched against {} siblings", count - 1),
+            &format!("a commit that searches, siblings: {}", count - 1),
             &mut || {
                 black_box(lent.event(&commit));
                 lent.table[ROW + 1] = 1;
@@ -177,7 +177,7 @@ fn growth(rows: &mut Vec<Row>) {
         let mut lent = lend(&world);
         let read = of(2, 1, 31);
         rows.push(measure(
-            &format!("a read with {count} actions started"),
+            &format!("a read, actions started: {count}"),
             &mut || {
                 black_box(lent.event(&read));
             },
