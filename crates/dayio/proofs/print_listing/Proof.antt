@@ -1,9 +1,11 @@
--- It meets its contract: what is written is a part of the buffer, since any listing fits it. Assumes nothing.
+-- It meets its contract: what is written is a part of the buffer, since any listing fits it, and the length handed back is
+-- that of the listing of what was read. Assumes nothing.
 use mathlib.Core.Path.{sym}
 use Prim.Native.Nat.{ℕ}
 use lib.ListN.{length-replicate}
 use lib.Seq.{length-take-le}
 use borrow.Author.Needs.{needs}
+use Rattle.rules.specs.Table.{newTable}
 use Rattle.dayfile.proofs.Days.{printed-fits}
 use Rattle.dayio.proofs.print_listing.Statement.{statement}
 use Rattle.dayio.proofs.print_listing.Tie as tie
@@ -46,7 +48,8 @@ write-all-requires : tie.Need-write-all-requires
 write-all-requires c κs = search needs
 
 returns : tie.Need-returns
-returns c = search needs
+unfolding newTable
+returns c = record { file = _; listed = c .before .before .before .before .before .day .ensures .0 }
 
 pub print-listing-spec : {M : Type 1} → statement M
 print-listing-spec =

@@ -1,0 +1,2 @@
+-- What is known of a listing whose file comes from outside.
+pub mod Printed
