@@ -114,20 +114,23 @@ fn chain(depth: u64) -> World {
     w
 }
 
+/// One event again and again, where it changes nothing after the first time.
+fn repeated(what: &str, mut world: World, e: Event) -> Row {
+    let mut lent = lend(&world);
+    measure(
+        what,
+        &mut || {
+            black_box(lent.event(&e));
+        },
+        &mut || {
+            black_box(world.event(&e));
+        },
+    )
+}
+
 fn single_events(rows: &mut Vec<Row>) {
     for count in [2, 64] {
-        let mut world = siblings(count);
-        let mut lent = lend(&world);
-        let write = of(3, 1, 31);
-        rows.push(measure(
-            &format!("a write, siblings: {}", count - 1),
-            &mut || {
-                black_box(lent.event(&write));
-            },
-            &mut || {
-                black_box(world.event(&write));
-            },
-        ));
+        rows.push(repeated(&format!("a write, siblings: {}", count - 1), siblings(count), of(3, 1, 31)));
     }
 }
 
@@ -173,18 +176,7 @@ fn searches(rows: &mut Vec<Row>) {
 fn growth(rows: &mut Vec<Row>) {
     for power in 0..7 {
         let count = 1 << power;
-        let mut world = siblings(count);
-        let mut lent = lend(&world);
-        let read = of(2, 1, 31);
-        rows.push(measure(
-            &format!("a read, actions started: {count}"),
-            &mut || {
-                black_box(lent.event(&read));
-            },
-            &mut || {
-                black_box(world.event(&read));
-            },
-        ));
+        rows.push(repeated(&format!("a read, actions started: {count}"), siblings(count), of(2, 1, 31)));
     }
 }
 

@@ -71,45 +71,38 @@ pub struct Lent {
     pub shadow: Vec<u8>,
 }
 
-// The pointers passed below come from slices that live through the call, with the slices' own lengths.
+/// A call on the lent table and stores, each as its pointer and its length, between its other arguments. The pointers
+/// come from vectors that live through the call.
+macro_rules! on_parts {
+    ($call:ident, $pointer:ident, $parts:ident, [$($front:expr),*], [$($back:expr),*]) => {
+        unsafe {
+            $call(
+                $($front,)*
+                $parts.table.$pointer(), $parts.table.len(),
+                $parts.base.$pointer(), $parts.base.len(),
+                $parts.shadow.$pointer(), $parts.shadow.len(),
+                $($back),*
+            )
+        }
+    };
+}
+
 impl Lent {
     pub fn event(&mut self, e: &Event) -> Answer {
         let (mut first, mut second) = (0, 0);
-        let kind = unsafe {
-            mundzavch_event(
-                self.table.as_mut_ptr(),
-                self.table.len(),
-                self.base.as_mut_ptr(),
-                self.base.len(),
-                self.shadow.as_mut_ptr(),
-                self.shadow.len(),
-                e.code,
-                e.number,
-                e.account,
-                e.card.as_ptr(),
-                e.card.len(),
-                &mut first,
-                &mut second,
-            )
-        };
+        let kind = on_parts!(
+            mundzavch_event,
+            as_mut_ptr,
+            self,
+            [],
+            [e.code, e.number, e.account, e.card.as_ptr(), e.card.len(), &mut first, &mut second]
+        );
         answer([kind, first, second])
     }
 
     pub fn look(&self, number: u64, account: u64) -> Result<Card, u64> {
         let mut card = [0xee; CARD];
-        let cause = unsafe {
-            mundzavch_look(
-                self.table.as_ptr(),
-                self.table.len(),
-                self.base.as_ptr(),
-                self.base.len(),
-                self.shadow.as_ptr(),
-                self.shadow.len(),
-                number,
-                account,
-                card.as_mut_ptr(),
-            )
-        };
+        let cause = on_parts!(mundzavch_look, as_ptr, self, [], [number, account, card.as_mut_ptr()]);
         if cause == 0 {
             return Ok(card);
         }
@@ -119,36 +112,13 @@ impl Lent {
 
     /// The cause, 0 where the list was run; its answers are then in the buffer's front.
     pub fn run(&mut self, events: &[u8], answers: &mut [u64]) -> u64 {
-        unsafe {
-            mundzavch_run(
-                self.table.as_mut_ptr(),
-                self.table.len(),
-                self.base.as_mut_ptr(),
-                self.base.len(),
-                self.shadow.as_mut_ptr(),
-                self.shadow.len(),
-                events.as_ptr(),
-                events.len(),
-                answers.as_mut_ptr(),
-                answers.len(),
-            )
-        }
+        let (out, room) = (answers.as_mut_ptr(), answers.len());
+        on_parts!(mundzavch_run, as_mut_ptr, self, [], [events.as_ptr(), events.len(), out, room])
     }
 
     pub fn day<'a>(&mut self, file: &[u8], listing: &'a mut [u8; LISTING]) -> &'a [u8] {
-        let length = unsafe {
-            mundzavch_day(
-                file.as_ptr(),
-                file.len(),
-                self.table.as_mut_ptr(),
-                self.table.len(),
-                self.base.as_mut_ptr(),
-                self.base.len(),
-                self.shadow.as_mut_ptr(),
-                self.shadow.len(),
-                listing.as_mut_ptr(),
-            )
-        };
+        let out = listing.as_mut_ptr();
+        let length = on_parts!(mundzavch_day, as_mut_ptr, self, [file.as_ptr(), file.len()], [out]);
         &listing[..length]
     }
 
