@@ -3,6 +3,12 @@
 #include <stdio.h>
 #include <string.h>
 
+/* Actions get their numbers in the order of their starts; 0 is the store. */
+enum { STORE, RUN, FIRST_BATCH, SECOND_BATCH };
+
+/* For the account and the card's bytes, where an event uses none. */
+enum { NONE = 0 };
+
 static uint64_t table[MUNDZAVCH_TABLE_WORDS];
 static uint8_t base[MUNDZAVCH_BASE_BYTES], shadow[MUNDZAVCH_SHADOW_BYTES];
 
@@ -15,9 +21,9 @@ static void event(const char *what, uint64_t code, uint64_t number, uint64_t acc
     uint64_t kind = mundzavch_event(table, MUNDZAVCH_TABLE_WORDS, base, sizeof base, shadow, sizeof shadow,
                                     code, number, account, card, sizeof card, &first, &second);
     printf("%-32s %s", what, kinds[kind]);
-    if (kind != MUNDZAVCH_WRITTEN)
+    if (kind != MUNDZAVCH_ANSWER_WRITTEN)
         printf(" %llu", (unsigned long long)first);
-    if (kind == MUNDZAVCH_FAILED)
+    if (kind == MUNDZAVCH_ANSWER_FAILED)
         printf(" %llu", (unsigned long long)second);
     printf("\n");
 }
@@ -25,16 +31,16 @@ static void event(const char *what, uint64_t code, uint64_t number, uint64_t acc
 int main(void)
 {
     mundzavch_open(table, MUNDZAVCH_TABLE_WORDS);
-    event("a run starts", MUNDZAVCH_START, 0, 0, 0);
-    event("its first batch starts", MUNDZAVCH_START, 1, 0, 0);
-    event("its second batch starts", MUNDZAVCH_START, 1, 0, 0);
-    event("the second reads account 5", MUNDZAVCH_READ, 3, 5, 0);
-    event("the second posts on account 6", MUNDZAVCH_WRITE, 3, 6, 9);
-    event("the first posts on account 5", MUNDZAVCH_WRITE, 2, 5, 7);
-    event("the run may not read meanwhile", MUNDZAVCH_READ, 1, 5, 0);
-    event("the first commits", MUNDZAVCH_COMMIT, 2, 0, 0);
-    event("the second asks to commit", MUNDZAVCH_COMMIT, 3, 0, 0);
-    event("the run commits", MUNDZAVCH_COMMIT, 1, 0, 0);
-    printf("account 5 holds %d, account 6 %d\n", base[32 * 5], base[32 * 6]);
+    event("a run starts", MUNDZAVCH_EVENT_START, STORE, NONE, NONE);
+    event("its first batch starts", MUNDZAVCH_EVENT_START, RUN, NONE, NONE);
+    event("its second batch starts", MUNDZAVCH_EVENT_START, RUN, NONE, NONE);
+    event("the second reads account 5", MUNDZAVCH_EVENT_READ, SECOND_BATCH, 5, NONE);
+    event("the second posts on account 6", MUNDZAVCH_EVENT_WRITE, SECOND_BATCH, 6, 9);
+    event("the first posts on account 5", MUNDZAVCH_EVENT_WRITE, FIRST_BATCH, 5, 7);
+    event("the run may not read meanwhile", MUNDZAVCH_EVENT_READ, RUN, 5, NONE);
+    event("the first commits", MUNDZAVCH_EVENT_COMMIT, FIRST_BATCH, NONE, NONE);
+    event("the second asks to commit", MUNDZAVCH_EVENT_COMMIT, SECOND_BATCH, NONE, NONE);
+    event("the run commits", MUNDZAVCH_EVENT_COMMIT, RUN, NONE, NONE);
+    printf("account 5 holds %d, account 6 %d\n", base[MUNDZAVCH_CARD_BYTES * 5], base[MUNDZAVCH_CARD_BYTES * 6]);
     return 0;
 }

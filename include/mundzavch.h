@@ -1,11 +1,15 @@
 /* Overlapping postings: the ledger engine's open calls, for C and whatever calls C.
  *
  * The caller owns all memory; the library keeps no pointer, allocates nothing and has no state of its own. Each pointer
- * is valid for its length and not NULL, also where the length is 0, and no two of a call's parts that it may change
- * overlap each other or anything else that is passed. Lengths may be any: a wrong one is refused, as is any content.
- * A call that is refused leaves the table and both stores as they were. No call fails in another way.
+ * is valid for its length and not NULL, also where the length is 0: an event that uses no card still needs a card
+ * pointer. No two of a call's parts that it may change overlap each other or anything else that is passed. Lengths may
+ * be any: a wrong one is refused, as is any content. A call that is refused leaves the table and both stores as they
+ * were. No call fails in another way.
  *
- * Numbers of the refusals, the lowest that applies:
+ * Stack that a call takes: about 27 KB for a day; about 3.5 KB for an event or a list and 2.2 KB for a look where
+ * actions lie 64 deep, as the walk up the parents calls itself.
+ *
+ * Numbers of the refusals:
  *    1  the base store is not 1,024 bytes, or the shadow store not 65,536
  *    2  the table is not sound, or not MUNDZAVCH_TABLE_WORDS long
  *    3  the event's code is not 1 to 5
@@ -18,6 +22,10 @@
  *   10  a day file, or a list of events, that is too short or too long; a list's answers have no room
  *   11  a day file's count is above its limit
  *   12  a day file's opening accounts do not rise, or one is above 31
+ * Of 1 to 9 the lowest that applies is given. A list asks 1, 2, then 10. A day asks 1, then 2 for the table's length
+ * alone, then its file, in an order of its own: 10 where it is empty, 11 for the count of cards, 10 where it ends
+ * before the count of events, 11 for that count, 10 for its length, 12 for its accounts. So a file of the one byte 33
+ * is cut, and is refused 11.
  */
 #ifndef MUNDZAVCH_H
 #define MUNDZAVCH_H
@@ -25,32 +33,40 @@
 #include <stddef.h>
 #include <stdint.h>
 
-#define MUNDZAVCH_TABLE_WORDS 4355  /* uint64_t words in a table */
-#define MUNDZAVCH_BASE_BYTES 1024   /* account k's card stands at 32 k */
-#define MUNDZAVCH_SHADOW_BYTES 65536 /* action n's card for account k stands at 1024 (n - 1) + 32 k */
+#ifdef __cplusplus
+extern "C" {
+#endif
+
+/* Sizes. compare/build.rs reads these lines, and the values of the two enums below: plain numbers, one to a line. */
+#define MUNDZAVCH_ACTIONS 64          /* that a table sees in its life, numbered from 1 */
+#define MUNDZAVCH_ACCOUNTS 32         /* numbered from 0 */
+#define MUNDZAVCH_ROW_WORDS 67        /* uint64_t words in a row of a table: a head, then a row for each action */
+#define MUNDZAVCH_TABLE_WORDS 4355    /* uint64_t words in a table */
 #define MUNDZAVCH_CARD_BYTES 32
-#define MUNDZAVCH_EVENT_BYTES 35    /* in a list or a day file: code, number, account, card */
-#define MUNDZAVCH_ANSWER_WORDS 3    /* in a list's answers: kind, first, second */
+#define MUNDZAVCH_BASE_BYTES 1024     /* byte 32 k is the first of account k's card */
+#define MUNDZAVCH_SHADOW_BYTES 65536  /* byte 1024 (n - 1) + 32 k is the first of action n's card for account k */
+#define MUNDZAVCH_EVENT_BYTES 35      /* in a list or a day file: code, number, account, a byte each, then the card */
+#define MUNDZAVCH_ANSWER_WORDS 3      /* in a list's answers: kind, first, second */
 #define MUNDZAVCH_LISTING_BYTES 65536 /* every day's listing fits */
 
 /* Codes of the events. `number` is the action, or the parent for a start, 0 for the store. */
 enum {
-    MUNDZAVCH_START = 1,
-    MUNDZAVCH_READ = 2,
-    MUNDZAVCH_WRITE = 3,
-    MUNDZAVCH_COMMIT = 4,
-    MUNDZAVCH_ABORT = 5
+    MUNDZAVCH_EVENT_START = 1,
+    MUNDZAVCH_EVENT_READ = 2,
+    MUNDZAVCH_EVENT_WRITE = 3,
+    MUNDZAVCH_EVENT_COMMIT = 4,
+    MUNDZAVCH_EVENT_ABORT = 5
 };
 
 /* Kinds of answers, with what `first` and `second` are. A number that a kind does not have is 0. */
 enum {
-    MUNDZAVCH_REFUSED = 0,   /* first: the number of the refusal */
-    MUNDZAVCH_STARTED = 1,   /* first: the new action's number */
-    MUNDZAVCH_GIVEN = 2,     /* a read; first: the action whose card it is, 0 for the base store */
-    MUNDZAVCH_WRITTEN = 3,
-    MUNDZAVCH_COMMITTED = 4, /* first: the end time, 0 where nothing was written */
-    MUNDZAVCH_FAILED = 5,    /* a clash, and the action is aborted; first: its end time, second: its account */
-    MUNDZAVCH_ABORTED = 6    /* first: how many actions became aborted */
+    MUNDZAVCH_ANSWER_REFUSED = 0,   /* first: the number of the refusal */
+    MUNDZAVCH_ANSWER_STARTED = 1,   /* first: the new action's number */
+    MUNDZAVCH_ANSWER_READ = 2,      /* first: the action whose card was read, 0 for the base store */
+    MUNDZAVCH_ANSWER_WRITTEN = 3,
+    MUNDZAVCH_ANSWER_COMMITTED = 4, /* first: the end time, 0 where nothing was written */
+    MUNDZAVCH_ANSWER_FAILED = 5,    /* a clash, and the action is aborted; first: its end time, second: its account */
+    MUNDZAVCH_ANSWER_ABORTED = 6    /* first: how many actions became aborted */
 };
 
 /* Makes a new table of the words, whatever they held. Returns 0, or 2 where `words` is not MUNDZAVCH_TABLE_WORDS. */
@@ -71,16 +87,23 @@ uint64_t mundzavch_event(uint64_t *table, size_t words, uint8_t *base, size_t ba
 uint64_t mundzavch_look(const uint64_t *table, size_t words, const uint8_t *base, size_t base_bytes,
                         const uint8_t *shadow, size_t shadow_bytes, uint64_t number, uint64_t account, uint8_t *card);
 
-/* A list of events, 35 bytes to each, one after the other; each event's answer, refused ones too, is three words of
- * `answers`, whose words behind them stay. Returns 0, or why nothing was run: 1, 2 or 10. */
+/* A list of events, MUNDZAVCH_EVENT_BYTES to each, one after the other: code, number and account are one byte each
+ * here, and the card has its 32. Each event's answer, refused ones too, is MUNDZAVCH_ANSWER_WORDS words of `answers`,
+ * whose words behind them stay. Returns 0, or why nothing was run: 1, 2 or 10. */
 uint64_t mundzavch_run(uint64_t *table, size_t words, uint8_t *base, size_t base_bytes, uint8_t *shadow,
                        size_t shadow_bytes, const uint8_t *events, size_t events_bytes, uint64_t *answers,
                        size_t answers_words);
 
-/* A whole day file, run on a new table over its opening cards. Returns the length of its listing, which stands at the
- * front of the MUNDZAVCH_LISTING_BYTES bytes at `listing`; those behind it stay. A day that is refused (1, 2, 10, 11 or
- * 12) lists one line, `refused` and the number; table and stores stay. */
+/* A whole day file, run on a new table over its opening cards. Of the table only the length is asked: what it held may
+ * be anything, sound or not. The whole base store is replaced, by zeros where the file names no card; bytes of the
+ * shadow store that nothing writes stay. Returns the length of the day's listing, which stands at the front of the
+ * MUNDZAVCH_LISTING_BYTES bytes at `listing`; those behind it stay. A day that is refused (1, 2, 10, 11 or 12) lists
+ * one line, `refused` and the number; table and stores stay. */
 size_t mundzavch_day(const uint8_t *file, size_t file_bytes, uint64_t *table, size_t words, uint8_t *base,
                      size_t base_bytes, uint8_t *shadow, size_t shadow_bytes, uint8_t *listing);
+
+#ifdef __cplusplus
+}
+#endif
 
 #endif

@@ -1,15 +1,30 @@
 //! The library over its C ABI beside the second engine, in one run: rounds interleaved, medians.
 
-use crate::dayfile::{event_bytes, run_day};
+use crate::dayfile::{event_bytes, run_day, MOST_EVENTS};
 use crate::generate::{day_file, events, Shape};
-use crate::library::{encode, Lent, LISTING, ROW, WORDS};
-use crate::model::{Event, State, World, BASE, CARD, SHADOW};
+use crate::header::*;
+use crate::library::{encode, Lent, LIVE, STATE};
+use crate::model::{Event, Ledger, State, Table, STORE};
 use crate::random::Random;
 use std::fmt::Write;
 use std::hint::black_box;
 use std::time::Instant;
 
 const ROUNDS: usize = 15;
+/// Calls before the first round, which tell how many a round takes: a few milliseconds of them, within bounds.
+const TRIAL_CALLS: u32 = 20;
+const ROUND_NANOSECONDS: f64 = 4e6;
+const LEAST_CALLS: f64 = 20.0;
+const MOST_CALLS: f64 = 200_000.0;
+/// The seed of the days.
+const SEED: u64 = 7;
+/// What base store and cards hold.
+const BASE_FILL: u8 = 1;
+const CARD_FILL: u8 = 7;
+/// An account that no sibling writes; they share those below it.
+const FREE_ACCOUNT: u64 = ACCOUNTS as u64 - 1;
+/// Where an event has no use for an account.
+const NO_ACCOUNT: u64 = 0;
 
 struct Row {
     what: String,
@@ -33,8 +48,8 @@ fn time(times: u32, f: &mut dyn FnMut()) -> f64 {
 }
 
 fn measure(what: &str, ours: &mut dyn FnMut(), plain: &mut dyn FnMut()) -> Row {
-    let once = time(20, plain).max(time(20, ours)).max(1.0);
-    let times = (4e6 / once).clamp(20.0, 200_000.0) as u32;
+    let once = time(TRIAL_CALLS, plain).max(time(TRIAL_CALLS, ours)).max(1.0);
+    let times = (ROUND_NANOSECONDS / once).clamp(LEAST_CALLS, MOST_CALLS) as u32;
     let (mut a, mut b, mut ratios) = (Vec::new(), Vec::new(), Vec::new());
     for _ in 0..ROUNDS {
         let (x, y) = (time(times, ours), time(times, plain));
@@ -45,37 +60,37 @@ fn measure(what: &str, ours: &mut dyn FnMut(), plain: &mut dyn FnMut()) -> Row {
     Row { what: what.to_string(), ours: median(a), plain: median(b), ratio: median(ratios) }
 }
 
-fn lend(w: &World) -> Lent {
-    let mut table = vec![0; WORDS];
+fn lend(w: &Ledger) -> Lent {
+    let mut table = vec![0; TABLE_WORDS];
     encode(&w.table, &mut table);
     Lent { table, base: w.base.clone(), shadow: w.shadow.clone() }
 }
 
-fn new_world() -> World {
-    World::new(vec![1; BASE], vec![0; SHADOW])
+fn new_world() -> Ledger {
+    Ledger::new(vec![BASE_FILL; BASE_BYTES], vec![0; SHADOW_BYTES])
 }
 
 fn of(code: u64, number: u64, account: u64) -> Event {
-    Event { code, number, account, card: vec![7; CARD] }
+    Event { code, number, account, card: vec![CARD_FILL; CARD_BYTES] }
 }
 
 /// A whole day: file to listing, and its events alone.
 fn days(rows: &mut Vec<Row>) {
     for (name, shape) in [("deep", Shape::Deep), ("wide", Shape::Wide), ("mixed", Shape::Mixed)] {
-        let list = events(&mut Random::new(7), 1000, shape, true);
+        let list = events(&mut Random::new(SEED), MOST_EVENTS, shape, true);
         let file = day_file(&[], &list);
-        let (mut lent, mut buffer) = (lend(&new_world()), Box::new([0; LISTING]));
+        let (mut lent, mut buffer) = (lend(&new_world()), Box::new([0; LISTING_BYTES]));
         rows.push(measure(
             &format!("a day of 1,000 events, {name}: file to listing"),
             &mut || {
                 black_box(lent.day(&file, &mut buffer));
             },
             &mut || {
-                black_box(run_day(&file, vec![0; SHADOW]));
+                black_box(run_day(&file, vec![0; SHADOW_BYTES]));
             },
         ));
         let bytes = event_bytes(&list);
-        let (mut lent, mut words, mut world) = (lend(&new_world()), vec![0; 3000], new_world());
+        let (mut lent, mut words, mut ledger) = (lend(&new_world()), vec![0; ANSWER_WORDS * MOST_EVENTS], new_world());
         rows.push(measure(
             &format!("a day of 1,000 events, {name}: the events alone"),
             &mut || {
@@ -83,68 +98,69 @@ fn days(rows: &mut Vec<Row>) {
                 black_box(lent.run(&bytes, &mut words));
             },
             &mut || {
-                world.table = crate::model::Table::new();
-                black_box(list.iter().map(|e| world.sound_event(e)).last());
+                ledger.table = Table::new();
+                black_box(list.iter().map(|e| ledger.sound_event(e)).last());
             },
         ));
     }
 }
 
 /// Siblings under the store; each but the first has written its account and committed.
-fn siblings(count: u64) -> World {
+fn siblings(count: u64) -> Ledger {
     let mut w = new_world();
     for _ in 0..count {
-        w.event(&of(1, 0, 0));
+        w.event(&of(EVENT_START, STORE, NO_ACCOUNT));
     }
     for n in 2..=count {
-        w.event(&of(3, n, n % 31));
-        w.event(&of(4, n, 0));
+        w.event(&of(EVENT_WRITE, n, n % FREE_ACCOUNT));
+        w.event(&of(EVENT_COMMIT, n, NO_ACCOUNT));
     }
     w
 }
 
 /// One below the other; the first alone has written account 0.
-fn chain(depth: u64) -> World {
+fn chain(depth: u64) -> Ledger {
     let mut w = new_world();
-    w.event(&of(1, 0, 0));
-    w.event(&of(3, 1, 0));
+    w.event(&of(EVENT_START, STORE, NO_ACCOUNT));
+    w.event(&of(EVENT_WRITE, 1, 0));
     for n in 1..depth {
-        w.event(&of(1, n, 0));
+        w.event(&of(EVENT_START, n, NO_ACCOUNT));
     }
     w
 }
 
 /// One event again and again, where it changes nothing after the first time.
-fn repeated(what: &str, mut world: World, e: Event) -> Row {
-    let mut lent = lend(&world);
+fn repeated(what: &str, mut ledger: Ledger, e: Event) -> Row {
+    let mut lent = lend(&ledger);
     measure(
         what,
         &mut || {
             black_box(lent.event(&e));
         },
         &mut || {
-            black_box(world.event(&e));
+            black_box(ledger.event(&e));
         },
     )
 }
 
 fn single_events(rows: &mut Vec<Row>) {
-    for count in [2, 64] {
-        rows.push(repeated(&format!("a write, siblings: {}", count - 1), siblings(count), of(3, 1, 31)));
+    for count in [2, ACTIONS as u64] {
+        let write = of(EVENT_WRITE, 1, FREE_ACCOUNT);
+        rows.push(repeated(&format!("a write, siblings: {}", count - 1), siblings(count), write));
     }
 }
 
 fn looks(rows: &mut Vec<Row>) {
-    for depth in [1, 10, 64] {
-        let world = chain(depth);
-        let lent = lend(&world);
+    for depth in [1, 10, ACTIONS as u64] {
+        let ledger = chain(depth);
+        let lent = lend(&ledger);
         rows.push(measure(
             &format!("a look, depth: {depth}"),
             &mut || {
                 black_box(lent.look(depth, 0)).ok();
             },
             &mut || {
-                black_box(world.look(depth, 0)).ok();
+                black_box(ledger.look(depth, 0)).ok();
             },
         ));
     }
@@ -152,31 +168,32 @@ fn looks(rows: &mut Vec<Row>) {
 
 /// A commit that finds no clash. The action is made live again after each, by one store.
 fn searches(rows: &mut Vec<Row>) {
-    for count in [3, 64] {
-        let mut world = siblings(count);
-        for k in 0..31 {
-            world.event(&of(2, 1, k));
+    for count in [3, ACTIONS as u64] {
+        let mut ledger = siblings(count);
+        for k in 0..FREE_ACCOUNT {
+            ledger.event(&of(EVENT_READ, 1, k));
         }
-        let mut lent = lend(&world);
-        let commit = of(4, 1, 0);
+        let mut lent = lend(&ledger);
+        let commit = of(EVENT_COMMIT, 1, NO_ACCOUNT);
         rows.push(measure(
             &format!("a commit that searches, siblings: {}", count - 1),
             &mut || {
                 black_box(lent.event(&commit));
-                lent.table[ROW + 1] = 1;
+                lent.table[ROW_WORDS + STATE] = LIVE;
             },
             &mut || {
-                black_box(world.event(&commit));
-                world.table.actions[0].state = State::Live;
+                black_box(ledger.event(&commit));
+                ledger.table.actions[0].state = State::Live;
             },
         ));
     }
 }
 
 fn growth(rows: &mut Vec<Row>) {
-    for power in 0..7 {
+    for power in 0..=ACTIONS.ilog2() {
         let count = 1 << power;
-        rows.push(repeated(&format!("a read, actions started: {count}"), siblings(count), of(2, 1, 31)));
+        let read = of(EVENT_READ, 1, FREE_ACCOUNT);
+        rows.push(repeated(&format!("a read, actions started: {count}"), siblings(count), read));
     }
 }
 
@@ -197,7 +214,7 @@ fn write_between(path: &str, table: &str) -> Result<(), String> {
     std::fs::write(path, format!("{}{table}{}", &text[..from], &text[to..])).map_err(|e| format!("{path}: {e}"))
 }
 
-pub fn bench(file: Option<&str>) -> Result<i32, String> {
+pub fn bench(file: Option<&str>) -> Result<(), String> {
     let mut rows = Vec::new();
     days(&mut rows);
     single_events(&mut rows);
@@ -209,5 +226,5 @@ pub fn bench(file: Option<&str>) -> Result<i32, String> {
     if let Some(path) = file {
         write_between(path, &table)?;
     }
-    Ok(0)
+    Ok(())
 }

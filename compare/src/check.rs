@@ -7,31 +7,38 @@ use crate::days::check_days;
 use crate::lists::check_lists;
 use std::io::{stderr, IsTerminal, Write};
 
-/// All of it, by `count` events in lists, a tenth as many damaged tables and a hundredth as many days.
-pub fn check(count: u64, seed: u64) -> i32 {
+/// Events for each damaged table, and for each day.
+const EVENTS_TO_A_TABLE: u64 = 10;
+const EVENTS_TO_A_DAY: u64 = 100;
+
+/// All of it, by `count` events in lists, and fewer damaged tables and days; whether nothing differs.
+pub fn check(count: u64, seed: u64) -> bool {
     let mut seen = Coverage::default();
     let result = check_lists(count, seed, &mut seen)
-        .and_then(|()| check_damaged(count / 10, seed, &mut seen))
-        .and_then(|()| check_days(count / 100, seed, &mut seen));
+        .and_then(|()| check_damaged(count / EVENTS_TO_A_TABLE, seed, &mut seen))
+        .and_then(|()| check_days(count / EVENTS_TO_A_DAY, seed, &mut seen));
     progress("");
     print!("{seen}");
     match result {
         Ok(()) => {
             println!("{} compared, 0 differ", seen.compared());
-            0
+            true
         }
         Err(text) => {
             println!("{text}");
             println!("{} compared, 1 differs", seen.compared());
-            1
+            false
         }
     }
 }
 
+/// Blanks that clear the line before.
+const PROGRESS_WIDTH: usize = 60;
+
 /// A line that is written over, on a terminal only.
 pub fn progress(text: &str) {
     if stderr().is_terminal() {
-        eprint!("\r{text:<60}\r{text}");
+        eprint!("\r{text:<PROGRESS_WIDTH$}\r{text}");
         stderr().flush().ok();
     }
 }

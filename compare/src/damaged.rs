@@ -1,52 +1,64 @@
 //! Single events, and the other calls, on tables and stores that are damaged, or look so.
 
 use crate::calls::{list_call, open_and_totals};
+use crate::cause;
 use crate::coverage::Coverage;
-use crate::generate::{damage, event, events, shape, DAMAGES};
+use crate::damage::{damage, DAMAGES};
+use crate::generate::{event, events, shape};
+use crate::header::{BASE_BYTES, SHADOW_BYTES};
 use crate::library::{decode, encode, Lent};
 use crate::lists::Opening;
-use crate::model::{Answer, Card, Event, World, BASE, SHADOW};
+use crate::model::{Answer, Card, Event, Ledger};
 use crate::random::Random;
 use crate::same::{same, same_lent, Compared};
 use crate::shrink::{described, smallest_list};
 
+/// What the stores hold before the list.
+const BASE_FILL: u8 = 3;
+const SHADOW_FILL: u8 = 5;
+/// A list is shorter than this, and as many tables as this are damaged after it.
+const LONGEST_HISTORY: u64 = 150;
+const TABLES_TO_A_HISTORY: u64 = 50;
+/// Makes these random numbers others than the lists'.
+const SALT: u64 = 0xda3a_6ed0;
+
 /// What the second engine makes of one event on anything that was lent.
 fn expected(lent: &Lent, e: &Event, seen: &mut Coverage) -> (Answer, Lent, Result<Card, u64>) {
-    let misfit = lent.base.len() != BASE || lent.shadow.len() != SHADOW;
+    let misfit = lent.base.len() != BASE_BYTES || lent.shadow.len() != SHADOW_BYTES;
     let Some(table) = decode(&lent.table) else {
-        let cause = if misfit { 1 } else { 2 };
+        let cause = if misfit { cause::STORE_LENGTH } else { cause::UNSOUND };
         seen.table_length += 1;
         return (Answer::Refused(cause), lent.clone(), Err(cause));
     };
-    let mut world = World { table, base: lent.base.clone(), shadow: lent.shadow.clone() };
+    let mut ledger = Ledger { table, base: lent.base.clone(), shadow: lent.shadow.clone() };
     if !misfit {
-        seen.soundness(world.table.soundness());
+        seen.soundness(ledger.table.soundness());
     }
-    let a = world.event(e);
+    let a = ledger.event(e);
     let mut words = lent.table.clone();
-    encode(&world.table, &mut words);
-    let look = world.look(e.number, e.account);
-    (a, Lent { table: words, base: world.base, shadow: world.shadow }, look)
+    encode(&ledger.table, &mut words);
+    let look = ledger.look(e.number, e.account);
+    (a, Lent { table: words, base: ledger.base, shadow: ledger.shadow }, look)
 }
 
 /// Every call on a table that a list left, after one or two kinds of damage.
 fn damaged(seed: u64, history: &[Event], seen: &mut Coverage) -> Compared {
     let mut r = Random::new(seed);
-    let opening = Opening { base: vec![3; BASE], shadow: vec![5; SHADOW] };
+    let opening = Opening { base: vec![BASE_FILL; BASE_BYTES], shadow: vec![SHADOW_FILL; SHADOW_BYTES] };
     let mut lent = opening.lend();
-    let mut world = World::new(opening.base, opening.shadow);
+    let mut ledger = Ledger::new(opening.base, opening.shadow);
     for e in history {
         lent.event(e);
-        world.event(e);
+        ledger.event(e);
     }
     for _ in 0..1 + r.below(3) / 2 {
-        let kind = r.below(DAMAGES);
+        let kind = *r.pick(&DAMAGES);
         damage(&mut r, kind, &mut lent);
     }
-    list_call(&mut r, &lent, &world, seen)?;
+    list_call(&mut r, &lent, &ledger, seen)?;
     open_and_totals(&lent)?;
     let shape = shape(&mut r);
-    let e = event(&mut r, &world, shape, false);
+    let e = event(&mut r, &ledger, shape, false);
     let (a, after, look) = expected(&lent, &e, seen);
     let ours = lent.event(&e);
     same(&format!("answer to {e:?}"), ours, a)?;
@@ -57,11 +69,11 @@ fn damaged(seed: u64, history: &[Event], seen: &mut Coverage) -> Compared {
 }
 
 pub fn check_damaged(count: u64, seed: u64, seen: &mut Coverage) -> Compared {
-    let mut r = Random::new(seed ^ 0xda3a_6ed0);
+    let mut r = Random::new(seed ^ SALT);
     let mut history = Vec::new();
     for i in 0..count {
-        if i % 50 == 0 {
-            let (length, shape) = (r.below(150) as usize, shape(&mut r));
+        if i % TABLES_TO_A_HISTORY == 0 {
+            let (length, shape) = (r.below(LONGEST_HISTORY) as usize, shape(&mut r));
             history = events(&mut r, length, shape, false);
             crate::check::progress(&format!("{i} damaged tables of {count}"));
         }

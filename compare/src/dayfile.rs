@@ -1,57 +1,69 @@
 //! A day file read, run and listed by the second engine.
 
-use crate::model::{Answer, Event, World, ACCOUNTS, BASE, CARD};
+use crate::cause;
+use crate::header::{ACCOUNTS, BASE_BYTES, CARD_BYTES, EVENT_BYTES, SHADOW_BYTES};
+use crate::model::{base_card, Answer, Event, Ledger};
 use std::fmt::Write;
+
+/// The parts of a day file (docs/RULES.md, 9.1): a count of cards, an entry for each, a count of events, the events.
+const CARD_COUNT_BYTES: usize = 1;
+const MOST_CARDS: u8 = 32;
+const ENTRY_BYTES: usize = 1 + CARD_BYTES;
+const EVENT_COUNT_BYTES: usize = 2;
+pub const MOST_EVENTS: usize = 1000;
 
 pub struct Day {
     pub base: Vec<u8>,
     pub events: Vec<Event>,
 }
 
+/// Where the entry of opening card i begins; behind the last entry stands the count of events.
+pub fn entry_at(i: usize) -> usize {
+    CARD_COUNT_BYTES + ENTRY_BYTES * i
+}
+
 pub fn parse(file: &[u8]) -> Result<Day, u64> {
-    let (&cards, rest) = file.split_first().ok_or(10u64)?;
-    if cards > 32 {
-        return Err(11);
+    let (&cards, rest) = file.split_first().ok_or(cause::LENGTH)?;
+    if cards > MOST_CARDS {
+        return Err(cause::COUNT);
     }
-    let opening_length = 33 * cards as usize;
-    if rest.len() < opening_length + 2 {
-        return Err(10);
+    let (opening, rest) = rest.split_at_checked(ENTRY_BYTES * cards as usize).ok_or(cause::LENGTH)?;
+    let (&count, events) = rest.split_first_chunk::<EVENT_COUNT_BYTES>().ok_or(cause::LENGTH)?;
+    let count = u16::from_le_bytes(count) as usize;
+    if count > MOST_EVENTS {
+        return Err(cause::COUNT);
     }
-    let (opening, rest) = rest.split_at(opening_length);
-    let count = u16::from_le_bytes([rest[0], rest[1]]) as usize;
-    if count > 1000 {
-        return Err(11);
+    if events.len() != EVENT_BYTES * count {
+        return Err(cause::LENGTH);
     }
-    let events = &rest[2..];
-    if events.len() != 35 * count {
-        return Err(10);
-    }
-    let base = opening_base(opening).ok_or(12u64)?;
-    Ok(Day { base, events: events.chunks(35).map(event_of).collect() })
+    let base = opening_base(opening).ok_or(cause::OPENING)?;
+    Ok(Day { base, events: events.chunks(EVENT_BYTES).map(event_of).collect() })
 }
 
 fn opening_base(opening: &[u8]) -> Option<Vec<u8>> {
-    let mut base = vec![0; BASE];
+    let mut base = vec![0; BASE_BYTES];
     let mut least = 0;
-    for entry in opening.chunks(33) {
-        let account = entry[0] as usize;
+    for entry in opening.chunks(ENTRY_BYTES) {
+        let (&account, card) = entry.split_first()?;
+        let account = account as usize;
         if account < least || account >= ACCOUNTS {
             return None;
         }
         least = account + 1;
-        base[CARD * account..CARD * (account + 1)].copy_from_slice(&entry[1..]);
+        base[base_card(account)].copy_from_slice(card);
     }
     Some(base)
 }
 
-/// An event from its 35 bytes.
+/// An event from its bytes.
 pub fn event_of(bytes: &[u8]) -> Event {
-    Event { code: bytes[0] as u64, number: bytes[1] as u64, account: bytes[2] as u64, card: bytes[3..].to_vec() }
+    let [code, number, account, card @ ..] = bytes else { panic!("an event of {} bytes", bytes.len()) };
+    Event { code: (*code).into(), number: (*number).into(), account: (*account).into(), card: card.to_vec() }
 }
 
-/// Events as a day file has them, 35 bytes to each; every part must fit.
+/// Events as a day file or a list has them; every part must fit.
 pub fn event_bytes(events: &[Event]) -> Vec<u8> {
-    let mut bytes = Vec::with_capacity(35 * events.len());
+    let mut bytes = Vec::with_capacity(EVENT_BYTES * events.len());
     for e in events {
         bytes.extend([e.code as u8, e.number as u8, e.account as u8]);
         bytes.extend(&e.card);
@@ -66,22 +78,34 @@ pub fn counted_events(events: &[Event]) -> Vec<u8> {
     bytes
 }
 
+/// The one line of a day that is refused.
+pub fn refused_line(cause: u64) -> String {
+    format!("refused {cause}\n")
+}
+
 /// The listing of a day over a shadow store that may hold anything, and what stands after it: nothing where the
 /// file is refused.
-pub fn run_day(file: &[u8], shadow: Vec<u8>) -> (String, Option<World>) {
+pub fn run_day(file: &[u8], shadow: Vec<u8>) -> (String, Option<Ledger>) {
     let day = match parse(file) {
         Ok(day) => day,
-        Err(fault) => return (format!("refused {fault}\n"), None),
+        Err(fault) => return (refused_line(fault), None),
     };
-    let mut world = World::new(day.base, shadow);
+    let mut ledger = Ledger::new(day.base, shadow);
     let mut lines = String::new();
     for (i, e) in day.events.iter().enumerate() {
         write!(lines, "{} ", i + 1).expect("a string grows");
-        write_words(&mut lines, world.sound_event(e));
+        write_words(&mut lines, ledger.sound_event(e));
         lines.push('\n');
     }
-    writeln!(lines, "end {} {}", world.table.started, world.table.counter).expect("a string grows");
-    (lines, Some(world))
+    writeln!(lines, "end {} {}", ledger.table.started, ledger.table.counter).expect("a string grows");
+    (lines, Some(ledger))
+}
+
+/// Prints a day file's lines as the day program does, and asks the library nothing.
+pub fn print_lines(path: &str) -> Result<(), String> {
+    let file = std::fs::read(path).map_err(|e| format!("{path}: {e}"))?;
+    print!("{}", run_day(&file, vec![0; SHADOW_BYTES]).0);
+    Ok(())
 }
 
 fn write_words(out: &mut String, a: Answer) {

@@ -1,12 +1,28 @@
-//! The library over its C ABI, and the table's words as the second engine's structs.
+//! The library over its C ABI, and the table's words as the second engine's structs: the one place that translates.
 
-use crate::model::{Action, Answer, Card, Event, State, Table, ACCOUNTS, ACTIONS, CARD};
+use crate::cause;
+use crate::header::*;
+use crate::model::{Action, Answer, Card, Event, State, Table};
 
-/// Words in a table: row 0 is the head, row n action n.
-pub const ROW: usize = 67;
-pub const WORDS: usize = ROW * (ACTIONS + 1);
-/// Bytes in a listing's buffer.
-pub const LISTING: usize = 65536;
+/// Words of row 0, the head.
+pub const STARTED: usize = 0;
+pub const COUNTER: usize = 1;
+/// Words of row n, action n. Each set has a word for every account, from here on.
+pub const PARENT: usize = 0;
+pub const STATE: usize = 1;
+pub const END: usize = 2;
+pub const READS: usize = 3;
+pub const WRITES: usize = READS + ACCOUNTS;
+/// What the state's word says.
+pub const LIVE: u64 = 1;
+pub const COMMITTED: u64 = 2;
+pub const ABORTED: u64 = 3;
+
+const _: () = assert!(ROW_WORDS == WRITES + ACCOUNTS, "a row ends with the write set");
+const _: () = assert!(TABLE_WORDS == ROW_WORDS * (ACTIONS + 1), "a table is a head and a row for each action");
+
+/// What stands where a refused look must not write.
+const UNTOUCHED: u8 = 0xee;
 
 extern "C" {
     fn mundzavch_open(table: *mut u64, words: usize) -> u64;
@@ -101,22 +117,22 @@ impl Lent {
     }
 
     pub fn look(&self, number: u64, account: u64) -> Result<Card, u64> {
-        let mut card = [0xee; CARD];
+        let mut card = [UNTOUCHED; CARD_BYTES];
         let cause = on_parts!(mundzavch_look, as_ptr, self, [], [number, account, card.as_mut_ptr()]);
-        if cause == 0 {
+        if cause == cause::NONE {
             return Ok(card);
         }
-        assert_eq!(card, [0xee; CARD], "a refused look wrote a card");
+        assert_eq!(card, [UNTOUCHED; CARD_BYTES], "a refused look wrote a card");
         Err(cause)
     }
 
-    /// The cause, 0 where the list was run; its answers are then in the buffer's front.
+    /// The cause, none where the list was run; its answers are then in the buffer's front.
     pub fn run(&mut self, events: &[u8], answers: &mut [u64]) -> u64 {
         let (out, room) = (answers.as_mut_ptr(), answers.len());
         on_parts!(mundzavch_run, as_mut_ptr, self, [], [events.as_ptr(), events.len(), out, room])
     }
 
-    pub fn day<'a>(&mut self, file: &[u8], listing: &'a mut [u8; LISTING]) -> &'a [u8] {
+    pub fn day<'a>(&mut self, file: &[u8], listing: &'a mut [u8; LISTING_BYTES]) -> &'a [u8] {
         let out = listing.as_mut_ptr();
         let length = on_parts!(mundzavch_day, as_mut_ptr, self, [file.as_ptr(), file.len()], [out]);
         &listing[..length]
@@ -132,83 +148,83 @@ impl Lent {
     }
 }
 
-/// An answer from its three words.
-pub fn answer(words: [u64; 3]) -> Answer {
+/// An answer from its words.
+pub fn answer(words: [u64; ANSWER_WORDS]) -> Answer {
     let [kind, first, second] = words;
     let a = match kind {
-        0 => Answer::Refused(first),
-        1 => Answer::Started(first),
-        2 => Answer::Read(first),
-        3 => Answer::Written,
-        4 => Answer::Committed(first),
-        5 => Answer::Failed(first, second),
-        6 => Answer::Aborted(first),
+        ANSWER_REFUSED => Answer::Refused(first),
+        ANSWER_STARTED => Answer::Started(first),
+        ANSWER_READ => Answer::Read(first),
+        ANSWER_WRITTEN => Answer::Written,
+        ANSWER_COMMITTED => Answer::Committed(first),
+        ANSWER_FAILED => Answer::Failed(first, second),
+        ANSWER_ABORTED => Answer::Aborted(first),
         _ => panic!("an answer of kind {kind}"),
     };
-    assert!(kind == 5 || second == 0, "a second number for kind {kind}");
-    assert!(kind != 3 || first == 0, "a number for a written card");
+    assert!(kind == ANSWER_FAILED || second == 0, "a second number for kind {kind}");
+    assert!(kind != ANSWER_WRITTEN || first == 0, "a number for a written card");
     a
 }
 
-pub fn answer_words(a: Answer) -> [u64; 3] {
+pub fn answer_words(a: Answer) -> [u64; ANSWER_WORDS] {
     match a {
-        Answer::Refused(c) => [0, c, 0],
-        Answer::Started(n) => [1, n, 0],
-        Answer::Read(n) => [2, n, 0],
-        Answer::Written => [3, 0, 0],
-        Answer::Committed(t) => [4, t, 0],
-        Answer::Failed(t, k) => [5, t, k],
-        Answer::Aborted(n) => [6, n, 0],
+        Answer::Refused(c) => [ANSWER_REFUSED, c, 0],
+        Answer::Started(n) => [ANSWER_STARTED, n, 0],
+        Answer::Read(n) => [ANSWER_READ, n, 0],
+        Answer::Written => [ANSWER_WRITTEN, 0, 0],
+        Answer::Committed(t) => [ANSWER_COMMITTED, t, 0],
+        Answer::Failed(t, k) => [ANSWER_FAILED, t, k],
+        Answer::Aborted(n) => [ANSWER_ABORTED, n, 0],
     }
 }
 
 fn state(word: u64) -> State {
     match word {
-        1 => State::Live,
-        2 => State::Committed,
-        3 => State::Aborted,
+        LIVE => State::Live,
+        COMMITTED => State::Committed,
+        ABORTED => State::Aborted,
         other => State::Unknown(other),
     }
 }
 
 fn state_word(s: State) -> u64 {
     match s {
-        State::Live => 1,
-        State::Committed => 2,
-        State::Aborted => 3,
+        State::Live => LIVE,
+        State::Committed => COMMITTED,
+        State::Aborted => ABORTED,
         State::Unknown(other) => other,
     }
 }
 
 /// The structs that a table's words stand for; None for a table of another length.
 pub fn decode(words: &[u64]) -> Option<Table> {
-    if words.len() != WORDS {
+    if words.len() != TABLE_WORDS {
         return None;
     }
-    let actions = words.chunks(ROW).skip(1).map(|row| {
-        let mut a = Action::new(row[0]);
-        a.state = state(row[1]);
-        a.end = row[2];
+    let actions = words.chunks(ROW_WORDS).skip(1).map(|row| {
+        let mut a = Action::new(row[PARENT]);
+        a.state = state(row[STATE]);
+        a.end = row[END];
         for k in 0..ACCOUNTS {
-            a.reads[k] = row[3 + k].checked_sub(1);
-            a.writes[k] = row[35 + k];
+            a.reads[k] = row[READS + k].checked_sub(1);
+            a.writes[k] = row[WRITES + k];
         }
         a
     });
-    Some(Table { started: words[0], counter: words[1], actions: actions.collect() })
+    Some(Table { started: words[STARTED], counter: words[COUNTER], actions: actions.collect() })
 }
 
 /// The table written over words of the right length; the head's other words stay.
 pub fn encode(t: &Table, words: &mut [u64]) {
-    words[0] = t.started;
-    words[1] = t.counter;
-    for (row, a) in words.chunks_mut(ROW).skip(1).zip(&t.actions) {
-        row[0] = a.parent;
-        row[1] = state_word(a.state);
-        row[2] = a.end;
+    words[STARTED] = t.started;
+    words[COUNTER] = t.counter;
+    for (row, a) in words.chunks_mut(ROW_WORDS).skip(1).zip(&t.actions) {
+        row[PARENT] = a.parent;
+        row[STATE] = state_word(a.state);
+        row[END] = a.end;
         for k in 0..ACCOUNTS {
-            row[3 + k] = a.reads[k].map_or(0, |t| t + 1);
-            row[35 + k] = a.writes[k];
+            row[READS + k] = a.reads[k].map_or(0, |t| t + 1);
+            row[WRITES + k] = a.writes[k];
         }
     }
 }

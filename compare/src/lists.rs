@@ -1,15 +1,24 @@
 //! Lists of events on both engines, event by event and in one call, and held to the serial run.
 
+use crate::cause;
 use crate::coverage::Coverage;
 use crate::dayfile::event_bytes;
 use crate::generate::{bytes, events, shape};
-use crate::library::{answer, encode, Lent, WORDS};
-use crate::model::{Answer, Card, Event, World, BASE, CARD, SHADOW};
+use crate::header::{ANSWER_WORDS, BASE_BYTES, CARD_BYTES, SHADOW_BYTES, TABLE_WORDS};
+use crate::library::{answer, encode, Lent};
+use crate::model::{Answer, Card, Event, Ledger};
 use crate::random::Random;
 use crate::same::{same, same_bytes, same_lent, same_words, Compared};
 use crate::serial::serial_run;
 use crate::shrink::{described, smallest_list};
 use std::collections::HashMap;
+
+/// What a buffer holds before a call fills it.
+pub const STALE: u64 = 77;
+/// Words that a buffer for answers has too many.
+const SPARE: usize = 5;
+/// A list is at most as long as one of these.
+const LONGEST: [u64; 5] = [50, 250, 250, 250, 700];
 
 /// The stores that a list begins with.
 pub struct Opening {
@@ -19,47 +28,47 @@ pub struct Opening {
 
 impl Opening {
     pub fn any(r: &mut Random) -> Opening {
-        Opening { base: bytes(r, BASE), shadow: bytes(r, SHADOW) }
+        Opening { base: bytes(r, BASE_BYTES), shadow: bytes(r, SHADOW_BYTES) }
     }
 
     pub fn lend(&self) -> Lent {
-        let mut lent = Lent { table: vec![9; WORDS], base: self.base.clone(), shadow: self.shadow.clone() };
-        assert_eq!(lent.open(), 0, "a buffer of a table's length is refused");
+        let mut lent = Lent { table: vec![STALE; TABLE_WORDS], base: self.base.clone(), shadow: self.shadow.clone() };
+        assert_eq!(lent.open(), cause::NONE, "a buffer of a table's length is refused");
         lent
     }
 }
 
-/// A list, event by event: answer, table, both stores, and the card that a look shows; then demand 3 by running, and
-/// the same list in one call.
+/// A list, event by event: answer, table, both stores, and the card that a look shows; then the serial run, and the
+/// same list in one call.
 fn list(opening: &Opening, events: &[Event], seen: &mut Coverage) -> Compared {
     let mut lent = opening.lend();
-    let mut world = World::new(opening.base.clone(), opening.shadow.clone());
-    let mut expected = vec![0; WORDS];
+    let mut ledger = Ledger::new(opening.base.clone(), opening.shadow.clone());
+    let mut expected = vec![0; TABLE_WORDS];
     let mut answers = Vec::with_capacity(events.len());
     let mut given: HashMap<usize, Card> = HashMap::new();
     for (i, e) in events.iter().enumerate() {
         let a = lent.event(e);
-        same("answer", a, world.event(e))?;
-        encode(&world.table, &mut expected);
+        same("answer", a, ledger.event(e))?;
+        encode(&ledger.table, &mut expected);
         same_words(&lent.table, &expected)?;
-        same_bytes("base store", &lent.base, &world.base)?;
-        same_bytes("shadow store", &lent.shadow, &world.shadow)?;
+        same_bytes("base store", &lent.base, &ledger.base)?;
+        same_bytes("shadow store", &lent.shadow, &ledger.shadow)?;
         let shown = lent.look(e.number, e.account);
-        same("look", shown, world.look(e.number, e.account))?;
+        same("look", shown, ledger.look(e.number, e.account))?;
         if let (Answer::Read(_), Ok(card)) = (a, shown) {
             given.insert(i, card);
         }
         seen.answer(a);
         answers.push(a);
     }
-    same("totals", lent.totals(), (world.table.started, world.table.counter))?;
+    same("totals", lent.totals(), (ledger.table.started, ledger.table.counter))?;
     seen.lists += 1;
-    demand_3(opening, events, &answers, &given, &lent.base, seen)?;
+    held_to_serial_run(opening, events, &answers, &given, &lent.base, seen)?;
     in_one_call(opening, events, &answers, &lent, seen)
 }
 
-/// The serial run against what the library showed and left.
-fn demand_3(
+/// The claim of docs/RULES.md, 6.6, by running: the serial run against what the library showed and left.
+fn held_to_serial_run(
     opening: &Opening,
     events: &[Event],
     answers: &[Answer],
@@ -69,24 +78,28 @@ fn demand_3(
 ) -> Compared {
     let serial = serial_run(events, answers, &opening.base);
     for (event, card) in &serial.reads {
-        let what = format!("demand 3: the card read at event {}", event + 1);
+        let what = format!("serial run: the card read at event {}", event + 1);
         same(&what, given.get(event), Some(card))?;
         seen.serial_reads += 1;
     }
-    same_bytes("demand 3: the base store", base, &serial.base)
+    same_bytes("serial run: the base store", base, &serial.base)
 }
 
 fn in_one_call(opening: &Opening, events: &[Event], answers: &[Answer], after: &Lent, seen: &mut Coverage) -> Compared {
-    let fits = |e: &Event| e.code < 256 && e.number < 256 && e.account < 256 && e.card.len() == CARD;
+    let in_a_byte = |part: u64| part <= u8::MAX.into();
+    let fits =
+        |e: &Event| in_a_byte(e.code) && in_a_byte(e.number) && in_a_byte(e.account) && e.card.len() == CARD_BYTES;
     if !events.iter().all(fits) {
         return Ok(());
     }
     let mut lent = opening.lend();
-    let mut words = vec![77; 3 * events.len() + 5];
-    same("list call", lent.run(&event_bytes(events), &mut words), 0)?;
-    let listed: Vec<Answer> = words[..3 * events.len()].chunks(3).map(|w| answer([w[0], w[1], w[2]])).collect();
+    let mut words = vec![STALE; ANSWER_WORDS * events.len() + SPARE];
+    same("list call", lent.run(&event_bytes(events), &mut words), cause::NONE)?;
+    let (filled, spare) = words.split_at(ANSWER_WORDS * events.len());
+    let listed: Vec<Answer> =
+        filled.chunks(ANSWER_WORDS).map(|w| answer(w.try_into().expect("an answer's length"))).collect();
     same("list call: answers", listed.as_slice(), answers)?;
-    same("list call: words after the answers", &words[3 * events.len()..], &[77; 5][..])?;
+    same("list call: words after the answers", spare, &[STALE; SPARE])?;
     seen.list_calls += 1;
     same_lent(&lent, after)
 }
@@ -97,7 +110,7 @@ pub fn check_lists(count: u64, seed: u64, seen: &mut Coverage) -> Compared {
     while done < count {
         let opening = Opening::any(&mut r);
         let (shape, in_bytes) = (shape(&mut r), r.one_in(2));
-        let longest = *r.pick(&[50, 250, 250, 250, 700]);
+        let longest = *r.pick(&LONGEST);
         let length = 1 + r.below(longest) as usize;
         let events = events(&mut r, length, shape, in_bytes);
         if let Err(text) = list(&opening, &events, seen) {

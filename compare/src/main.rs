@@ -1,13 +1,17 @@
-//! compare: the library beside a second engine, by results (`check`) and by time (`bench`).
+//! compare: the library beside a second engine, by results (`check`) and by time (`bench`); or the second engine alone
+//! on a day file (`lines`).
 
 mod bench;
 mod calls;
+mod cause;
 mod check;
 mod coverage;
+mod damage;
 mod damaged;
 mod dayfile;
 mod days;
 mod generate;
+mod header;
 mod library;
 mod lists;
 mod model;
@@ -16,35 +20,54 @@ mod same;
 mod serial;
 mod shrink;
 
-const USAGE: &str = "usage: compare check [--events N] [--seed S]\n       compare bench [--write FILE]";
+use std::process::ExitCode;
+
+const USAGE: &str = "\
+usage: compare/run check [--events N] [--seed S]   both engines on N events in lists, and on other calls by that measure
+       compare/run bench                           times of both, put into docs/PERFORMANCE.md
+       compare/run lines FILE                      the lines of a day file, by the second engine alone";
+
+const DEFAULT_EVENTS: u64 = 100_000;
+const DEFAULT_SEED: u64 = 1;
+
+/// Exit statuses.
+const DIFFER: u8 = 1;
+const BAD_USAGE: u8 = 2;
+
+fn behind<'a>(args: &'a [String], flag: &str) -> Option<&'a str> {
+    args.iter().skip_while(|a| *a != flag).nth(1).map(String::as_str)
+}
 
 /// The number behind a flag, or the default where the flag isn't given.
 fn number(args: &[String], flag: &str, default: u64) -> Result<u64, String> {
-    match args.iter().position(|a| a == flag) {
-        None => Ok(default),
-        Some(i) => {
-            let value = args.get(i + 1).ok_or(format!("{flag} needs a number"))?;
-            value.parse().map_err(|_| format!("{flag} needs a number, and has {value}"))
-        }
+    if !args.iter().any(|a| a == flag) {
+        return Ok(default);
     }
+    let value = behind(args, flag).ok_or(format!("{flag} needs a number"))?;
+    value.parse().map_err(|_| format!("{flag} needs a number, and has {value}"))
 }
 
-fn run(args: &[String]) -> Result<i32, String> {
+/// Whether the engines agree, where they are compared.
+fn run(args: &[String]) -> Result<bool, String> {
     match args.first().map(String::as_str) {
-        Some("check") => Ok(check::check(number(args, "--events", 100_000)?, number(args, "--seed", 1)?)),
-        Some("bench") => {
-            let file = args.iter().position(|a| a == "--write").and_then(|i| args.get(i + 1));
-            bench::bench(file.map(String::as_str))
+        Some("check") => {
+            let events = number(args, "--events", DEFAULT_EVENTS)?;
+            Ok(check::check(events, number(args, "--seed", DEFAULT_SEED)?))
         }
+        Some("bench") => bench::bench(behind(args, "--write")).map(|()| true),
+        Some("lines") => dayfile::print_lines(args.get(1).ok_or(USAGE)?).map(|()| true),
         _ => Err(USAGE.to_string()),
     }
 }
 
-fn main() {
+fn main() -> ExitCode {
     let args: Vec<String> = std::env::args().skip(1).collect();
-    let status = run(&args).unwrap_or_else(|text| {
-        eprintln!("{text}");
-        2
-    });
-    std::process::exit(status);
+    match run(&args) {
+        Ok(true) => ExitCode::SUCCESS,
+        Ok(false) => ExitCode::from(DIFFER),
+        Err(text) => {
+            eprintln!("{text}");
+            ExitCode::from(BAD_USAGE)
+        }
+    }
 }

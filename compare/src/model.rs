@@ -1,13 +1,16 @@
-//! The second engine: document 01 with actions as structs. It shares no code and no shape with the
-//! library, and was written from the paper alone.
+//! The second engine: the rules of docs/RULES.md, with actions as structs. It shares no code and no shape with the
+//! library; sizes and codes it takes from the C header, as any caller does.
 
-pub const ACCOUNTS: usize = 32;
-pub const CARD: usize = 32;
-pub const BASE: usize = 1024;
-pub const SHADOW: usize = 65536;
-pub const ACTIONS: usize = 64;
+use crate::cause;
+use crate::header::*;
 
-pub type Card = [u8; CARD];
+const _: () = assert!(BASE_BYTES == ACCOUNTS * CARD_BYTES, "the base store has a card for each account");
+const _: () = assert!(SHADOW_BYTES == ACTIONS * BASE_BYTES, "the shadow store has as much for each action");
+
+/// The parent of a topaction.
+pub const STORE: u64 = 0;
+
+pub type Card = [u8; CARD_BYTES];
 
 #[derive(Clone, Copy, PartialEq, Eq, Debug)]
 pub enum State {
@@ -65,7 +68,7 @@ pub enum Unsound {
 
 impl Table {
     pub fn new() -> Table {
-        let nothing = Action { state: State::Unknown(0), ..Action::new(0) };
+        let nothing = Action { state: State::Unknown(0), ..Action::new(STORE) };
         Table { started: 0, counter: 0, actions: vec![nothing; ACTIONS] }
     }
 
@@ -103,7 +106,7 @@ impl Table {
             return Err(Unsound::ParentNotBelow);
         }
         if a.state == State::Live {
-            if a.parent != 0 && self.action(a.parent).state != State::Live {
+            if a.parent != STORE && self.action(a.parent).state != State::Live {
                 return Err(Unsound::ParentNotLive);
             }
             if a.reads.iter().flatten().any(|&t| t > self.counter) {
@@ -127,7 +130,7 @@ impl Table {
     }
 
     fn is_at_or_below(&self, mut n: u64, top: u64) -> bool {
-        while n != 0 {
+        while n != STORE {
             if n == top {
                 return true;
             }
@@ -136,19 +139,19 @@ impl Table {
         false
     }
 
-    /// The action whose card is the nearest version, 0 for the base store.
+    /// The holder of an account's nearest version: an action or the store.
     pub fn nearest(&self, mut n: u64, account: usize) -> u64 {
-        while n != 0 {
+        while n != STORE {
             let a = self.action(n);
             if a.writes[account] != 0 {
                 return n;
             }
             n = a.parent;
         }
-        0
+        STORE
     }
 
-    /// The clash with the smallest end time and, within that, the smallest account.
+    /// The first clash: by end time, then by account.
     pub fn first_clash(&self, n: u64) -> Option<(u64, u64)> {
         let me = self.action(n);
         let mut first = None;
@@ -187,55 +190,62 @@ pub enum Answer {
     Aborted(u64),
 }
 
-/// A table and its two stores.
+/// A table and its two stores (RULES 1.8).
 #[derive(Clone, PartialEq, Eq, Debug)]
-pub struct World {
+pub struct Ledger {
     pub table: Table,
     pub base: Vec<u8>,
     pub shadow: Vec<u8>,
 }
 
-fn shadow_place(n: u64, account: usize) -> usize {
-    1024 * (n as usize - 1) + 32 * account
+/// Where the base store has an account's card.
+pub fn base_card(account: usize) -> std::ops::Range<usize> {
+    CARD_BYTES * account..CARD_BYTES * (account + 1)
 }
 
-impl World {
-    pub fn new(base: Vec<u8>, shadow: Vec<u8>) -> World {
-        World { table: Table::new(), base, shadow }
+/// Where the shadow store has action n's card for an account.
+fn shadow_card(n: u64, account: usize) -> std::ops::Range<usize> {
+    let from = BASE_BYTES * (n as usize - 1) + CARD_BYTES * account;
+    from..from + CARD_BYTES
+}
+
+impl Ledger {
+    pub fn new(base: Vec<u8>, shadow: Vec<u8>) -> Ledger {
+        Ledger { table: Table::new(), base, shadow }
     }
 
     /// Causes 1 and 2, which any call has.
     pub fn stores_cause(&self) -> Option<u64> {
-        if self.base.len() != BASE || self.shadow.len() != SHADOW {
-            return Some(1);
+        if self.base.len() != BASE_BYTES || self.shadow.len() != SHADOW_BYTES {
+            return Some(cause::STORE_LENGTH);
         }
-        self.table.soundness().err().map(|_| 2)
+        self.table.soundness().err().map(|_| cause::UNSOUND)
     }
 
     /// Causes 3 to 9.
     fn event_cause(&self, e: &Event) -> Option<u64> {
         let t = &self.table;
-        if !(1..=5).contains(&e.code) {
-            return Some(3);
+        if !(EVENT_START..=EVENT_ABORT).contains(&e.code) {
+            return Some(cause::CODE);
         }
-        let starts = e.code == 1;
-        if e.number > t.started || (e.number == 0 && !starts) {
-            return Some(4);
+        let starts = e.code == EVENT_START;
+        if e.number > t.started || (e.number == STORE && !starts) {
+            return Some(cause::NUMBER);
         }
-        if e.number != 0 && t.action(e.number).state != State::Live {
-            return Some(5);
+        if e.number != STORE && t.action(e.number).state != State::Live {
+            return Some(cause::NOT_LIVE);
         }
         if starts {
-            return (t.started >= ACTIONS as u64).then_some(6);
+            return (t.started >= ACTIONS as u64).then_some(cause::TABLE_FULL);
         }
-        let on_account = e.code == 2 || e.code == 3;
+        let on_account = e.code == EVENT_READ || e.code == EVENT_WRITE;
         if on_account && e.account >= ACCOUNTS as u64 {
-            return Some(7);
+            return Some(cause::ACCOUNT);
         }
-        if e.code == 3 && e.card.len() != CARD {
-            return Some(8);
+        if e.code == EVENT_WRITE && e.card.len() != CARD_BYTES {
+            return Some(cause::CARD_LENGTH);
         }
-        (e.code != 5 && t.has_live_child(e.number)).then_some(9)
+        (e.code != EVENT_ABORT && t.has_live_child(e.number)).then_some(cause::CHILD_LIVE)
     }
 
     /// One event on any table and stores.
@@ -252,10 +262,10 @@ impl World {
             return Answer::Refused(cause);
         }
         match e.code {
-            1 => self.start(e.number),
-            2 => self.read(e.number, e.account as usize),
-            3 => self.write(e.number, e.account as usize, &e.card),
-            4 => self.commit(e.number),
+            EVENT_START => self.start(e.number),
+            EVENT_READ => self.read(e.number, e.account as usize),
+            EVENT_WRITE => self.write(e.number, e.account as usize, &e.card),
+            EVENT_COMMIT => self.commit(e.number),
             _ => self.abort(e.number),
         }
     }
@@ -274,8 +284,7 @@ impl World {
     }
 
     fn write(&mut self, n: u64, account: usize, card: &[u8]) -> Answer {
-        let at = shadow_place(n, account);
-        self.shadow[at..at + CARD].copy_from_slice(card);
+        self.shadow[shadow_card(n, account)].copy_from_slice(card);
         self.table.action_mut(n).writes[account] = 1;
         Answer::Written
     }
@@ -295,7 +304,7 @@ impl World {
         me.end = end;
         let me = me.clone();
         self.hand_up_cards(n, &me);
-        if me.parent != 0 {
+        if me.parent != STORE {
             join(self.table.action_mut(me.parent), &me);
         }
         Answer::Committed(end)
@@ -303,12 +312,11 @@ impl World {
 
     fn hand_up_cards(&mut self, n: u64, me: &Action) {
         for k in (0..ACCOUNTS).filter(|&k| me.writes[k] != 0) {
-            let from = shadow_place(n, k);
-            if me.parent == 0 {
-                self.base[CARD * k..CARD * (k + 1)].copy_from_slice(&self.shadow[from..from + CARD]);
+            let own = shadow_card(n, k);
+            if me.parent == STORE {
+                self.base[base_card(k)].copy_from_slice(&self.shadow[own]);
             } else {
-                let to = shadow_place(me.parent, k);
-                self.shadow.copy_within(from..from + CARD, to);
+                self.shadow.copy_within(own, shadow_card(me.parent, k).start);
             }
         }
     }
@@ -325,20 +333,20 @@ impl World {
 
     /// The card at the nearest version, or why it can't be had.
     pub fn look(&self, n: u64, account: u64) -> Result<Card, u64> {
-        let read = Event { code: 2, number: n, account, card: Vec::new() };
+        let read = Event { code: EVENT_READ, number: n, account, card: Vec::new() };
         if let Some(cause) = self.stores_cause().or_else(|| self.event_cause(&read)) {
             return Err(cause);
         }
         let k = account as usize;
         let part = match self.table.nearest(n, k) {
-            0 => &self.base[CARD * k..],
-            m => &self.shadow[shadow_place(m, k)..],
+            STORE => &self.base[base_card(k)],
+            m => &self.shadow[shadow_card(m, k)],
         };
-        Ok(part[..CARD].try_into().expect("a card's length"))
+        Ok(part.try_into().expect("a card's length"))
     }
 }
 
-/// The union of the sets; where both have read an account, the smaller time stays.
+/// The union of both sets; of two read times the smaller.
 fn join(parent: &mut Action, child: &Action) {
     for k in 0..ACCOUNTS {
         parent.reads[k] = match (parent.reads[k], child.reads[k]) {

@@ -1,5 +1,6 @@
 //! What counts as the same, and how a difference reads.
 
+use crate::header::ROW_WORDS;
 use crate::library::Lent;
 
 /// Where the two engines part.
@@ -27,8 +28,8 @@ pub fn same_words(ours: &[u64], theirs: &[u64]) -> Compared {
     let at = ours.iter().zip(theirs).position(|(a, b)| a != b).unwrap_or(0);
     Err(format!(
         "table: row {} field {}: the library has {}, the second engine {}",
-        at / 67,
-        at % 67,
+        at / ROW_WORDS,
+        at % ROW_WORDS,
         ours[at],
         theirs[at]
     ))

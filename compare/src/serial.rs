@@ -1,6 +1,7 @@
-//! The serial run of R, from the events, the answers they got and the opening base store alone.
+//! The serial run of R (docs/RULES.md, 6), from the events, the answers they got and the opening base store alone.
 
-use crate::model::{Answer, Card, Event, ACCOUNTS, CARD};
+use crate::header::ACCOUNTS;
+use crate::model::{base_card, Answer, Card, Event, STORE};
 use std::collections::HashMap;
 
 enum Step {
@@ -28,7 +29,7 @@ pub fn serial_run(events: &[Event], answers: &[Answer], opening: &[u8]) -> Seria
     let blocks = collect(events, answers);
     let out = Serial { reads: HashMap::new(), base: opening.to_vec() };
     let mut run = Run { blocks, under_way: Vec::new(), out };
-    for top in run.blocks.remove(&0).unwrap_or_default() {
+    for top in run.blocks.remove(&STORE).unwrap_or_default() {
         if let Step::Child { number } = top {
             run.block(number);
         }
@@ -36,7 +37,7 @@ pub fn serial_run(events: &[Event], answers: &[Answer], opening: &[u8]) -> Seria
     run.out
 }
 
-/// Each action's block; that of number 0 has the topactions that committed, in the order of their commits.
+/// Each action's block; the store's has the topactions that committed, in the order of their commits.
 fn collect(events: &[Event], answers: &[Answer]) -> HashMap<u64, Vec<Step>> {
     let mut blocks: HashMap<u64, Vec<Step>> = HashMap::new();
     let mut parents: HashMap<u64, u64> = HashMap::new();
@@ -82,7 +83,7 @@ impl Run {
 
     fn shown(&self, account: usize) -> Card {
         let own = self.under_way.iter().rev().find_map(|cards| cards[account]);
-        let base = &self.out.base[CARD * account..CARD * (account + 1)];
+        let base = &self.out.base[base_card(account)];
         own.unwrap_or_else(|| base.try_into().expect("a card's length"))
     }
 
@@ -92,7 +93,7 @@ impl Run {
             let Some(card) = card else { continue };
             match self.under_way.last_mut() {
                 Some(parent) => parent[account] = Some(*card),
-                None => self.out.base[CARD * account..CARD * (account + 1)].copy_from_slice(card),
+                None => self.out.base[base_card(account)].copy_from_slice(card),
             }
         }
     }

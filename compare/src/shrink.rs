@@ -1,6 +1,7 @@
 //! The smallest list that still shows a difference: parts are taken out, large ones first, while it stays.
 
-use crate::model::{Answer, Event, World, BASE, SHADOW};
+use crate::header::{BASE_BYTES, SHADOW_BYTES};
+use crate::model::{Answer, Event, Ledger};
 use std::collections::HashMap;
 
 type TakeOut<T> = fn(&[T], usize, usize) -> Vec<T>;
@@ -33,11 +34,11 @@ pub fn smallest_list(events: &[Event], differs: impl Fn(&[Event]) -> bool) -> Ve
 
 /// The other events, with the numbers that their actions get when the starts among those taken out are gone.
 fn without(events: &[Event], from: usize, to: usize) -> Vec<Event> {
-    let mut world = World::new(vec![0; BASE], vec![0; SHADOW]);
+    let mut ledger = Ledger::new(vec![0; BASE_BYTES], vec![0; SHADOW_BYTES]);
     let mut numbers: HashMap<u64, u64> = HashMap::new();
     let mut kept = Vec::new();
     for (i, e) in events.iter().enumerate() {
-        let answer = world.event(e);
+        let answer = ledger.event(e);
         if (from..to).contains(&i) {
             continue;
         }
@@ -49,11 +50,14 @@ fn without(events: &[Event], from: usize, to: usize) -> Vec<Event> {
     kept
 }
 
+/// How many bytes of a card a reader is shown.
+const SHOWN: usize = 2;
+
 /// A list for a reader, a line to an event.
 pub fn described(events: &[Event]) -> String {
     let mut text = format!("{} events:", events.len());
     for (i, e) in events.iter().enumerate() {
-        let front: Vec<u8> = e.card.iter().take(2).copied().collect();
+        let front: Vec<u8> = e.card.iter().take(SHOWN).copied().collect();
         text += &format!(
             "\n{} code {} number {} account {} card {front:?}.. of {}",
             i + 1,

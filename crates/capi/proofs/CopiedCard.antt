@@ -4,7 +4,7 @@ use mathlib.Core.Path.{_≡_, _∙_}
 use mathlib.Core.List.{List, _++_}
 use lib.ListN.{length, take, drop}
 use lib.Seq.{take-length}
-use Rattle.capi.specs.Shown.{shownIn}
+use Rattle.capi.specs.Given.{shownIn}
 
 pub copied-shown :
     (card part given after : List ℕ) → after ≡ take (length part) part ++ drop (length part) card → part ≡ given →

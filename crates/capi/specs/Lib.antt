@@ -1,2 +1,2 @@
--- What a C caller's buffer holds after a look; all other promises are those of the calls passed on to.
-pub mod Shown
+-- What a C caller is given: an answer as three numbers, and a look's card; all else is promised by the calls passed on to.
+pub mod Given

@@ -2,16 +2,18 @@
 // pointer must be; the promises are those of the calls that these pass on to.
 ghost use mathlib.Core.Path.{_≡_};
 ghost use mathlib.Core.List.{[], _∷_};
-ghost use lib.ListN.{length};
 ghost use Rattle.rules.specs.Table.{started, counter};
+ghost use Rattle.rules.specs.Ledger.{ledgerOf};
+ghost use Rattle.rules.specs.Event.{eventOf};
 ghost use Rattle.rules.specs.Step.{step};
-ghost use Rattle.rules.specs.Look.{look, bytesOf};
+ghost use Rattle.rules.specs.Look.{look, lookedCard};
 ghost use Rattle.table.specs.Open.{openCause, openTable};
-ghost use Rattle.engine.specs.Promise.{stateOf, eventOf};
-ghost use Rattle.engine.specs.Listed.{wordsOf, listCause, listState, listAnswers};
-ghost use Rattle.dayfile.specs.Buffer.{putAt};
-ghost use Rattle.dayfile.specs.Day.{evening, listing};
-ghost use Rattle.capi.specs.Shown.{shownIn};
+ghost use Rattle.lists.specs.Listed.{listedOf, runList};
+ghost use Rattle.dayfile.specs.Day.{dayOf, runDay};
+ghost use Rattle.capi.specs.Given.{GivesWords, shownIn};
+use rules::cause::NONE;
+use rules::day::LISTING_LENGTH;
+use rules::store::CARD_LENGTH;
 
 // table::open
 #[no_mangle]
@@ -51,11 +53,13 @@ pub extern "C" fn mundzavch_event(
     first: &mut u64,
     second: &mut u64,
 ) -> u64
-    ensures answer { λ r. ⌜ (r ∷ now (first .exit) ∷ now (second .exit) ∷ []) ≡ wordsOf (step (stateOf (now (table .entry)) (now (base .entry)) (now (shadow .entry))) (eventOf code number account (now (card .entry))) .answer) ⌝ }
-    ensures leaves { λ r. ⌜ stateOf (now (table .exit)) (now (base .exit)) (now (shadow .exit)) ≡ step (stateOf (now (table .entry)) (now (base .entry)) (now (shadow .entry))) (eventOf code number account (now (card .entry))) .after ⌝ }
+    ensures { λ r. ⌜ GivesWords (r ∷ now (first .exit) ∷ now (second .exit) ∷ [])
+        (now (table .exit)) (now (base .exit)) (now (shadow .exit))
+        (step (ledgerOf (now (table .entry)) (now (base .entry)) (now (shadow .entry)))
+        (eventOf code number account (now (card .entry)))) ⌝ }
 {
     let answer = engine::event::event(table, base, shadow, code, number, account, card);
-    let words = engine::answer::words(answer);
+    let words = lists::answer::words(answer);
     *first = words[1];
     *second = words[2];
     words[0]
@@ -69,12 +73,15 @@ pub extern "C" fn mundzavch_look<'a>(
     shadow: &'a [u8],
     number: u64,
     account: u64,
-    card: &mut [u8; 32],
+    card: &mut [u8; CARD_LENGTH],
 ) -> u64
-    ensures cause { λ r. ⌜ r ≡ look (now (table .entry)) (now (base .entry)) (now (shadow .entry)) number account .cause ⌝ }
-    ensures card { λ r. ⌜ now (card .exit) ≡ shownIn (now (card .entry)) (bytesOf (now (base .entry)) (now (shadow .entry)) (look (now (table .entry)) (now (base .entry)) (now (shadow .entry)) number account .part)) ⌝ }
+    ensures cause { λ r. ⌜ r
+        ≡ look (now (table .entry)) (now (base .entry)) (now (shadow .entry)) number account .cause ⌝ }
+    ensures card { λ r. ⌜ now (card .exit)
+        ≡ shownIn (now (card .entry))
+        (lookedCard (now (table .entry)) (now (base .entry)) (now (shadow .entry)) number account) ⌝ }
 {
-    let mut cause = 0;
+    let mut cause = NONE;
     let part = engine::look::look(table, base, shadow, number, account, &mut cause);
     bytes::copy(part, card);
     cause
@@ -89,11 +96,11 @@ pub extern "C" fn mundzavch_run(
     events: &[u8],
     answers: &mut [u64],
 ) -> u64
-    ensures cause { λ r. ⌜ r ≡ listCause (stateOf (now (table .entry)) (now (base .entry)) (now (shadow .entry))) (now (events .entry)) (now (answers .entry)) ⌝ }
-    ensures leaves { λ r. ⌜ stateOf (now (table .exit)) (now (base .exit)) (now (shadow .exit)) ≡ listState (stateOf (now (table .entry)) (now (base .entry)) (now (shadow .entry))) (now (events .entry)) (now (answers .entry)) ⌝ }
-    ensures answers { λ r. ⌜ now (answers .exit) ≡ listAnswers (stateOf (now (table .entry)) (now (base .entry)) (now (shadow .entry))) (now (events .entry)) (now (answers .entry)) ⌝ }
+    ensures { λ r. ⌜ listedOf r (ledgerOf (now (table .exit)) (now (base .exit)) (now (shadow .exit))) (now (answers .exit))
+        ≡ runList (ledgerOf (now (table .entry)) (now (base .entry)) (now (shadow .entry)))
+        (now (events .entry)) (now (answers .entry)) ⌝ }
 {
-    engine::run::run(table, base, shadow, events, answers)
+    lists::run::run(table, base, shadow, events, answers)
 }
 
 // day::day
@@ -103,11 +110,11 @@ pub extern "C" fn mundzavch_day(
     table: &mut [u64],
     base: &mut [u8],
     shadow: &mut [u8],
-    out: &mut [u8; 65536],
+    out: &mut [u8; LISTING_LENGTH],
 ) -> usize
-    ensures length { λ r. ⌜ r ≡ length (listing (stateOf (now (table .entry)) (now (base .entry)) (now (shadow .entry))) (now (file .entry))) ⌝ }
-    ensures listing { λ r. ⌜ now (out .exit) ≡ putAt (now (out .entry)) 0 (listing (stateOf (now (table .entry)) (now (base .entry)) (now (shadow .entry))) (now (file .entry))) ⌝ }
-    ensures leaves { λ r. ⌜ stateOf (now (table .exit)) (now (base .exit)) (now (shadow .exit)) ≡ evening (stateOf (now (table .entry)) (now (base .entry)) (now (shadow .entry))) (now (file .entry)) ⌝ }
+    ensures { λ r. ⌜ dayOf r (now (out .exit)) (ledgerOf (now (table .exit)) (now (base .exit)) (now (shadow .exit)))
+        ≡ runDay (ledgerOf (now (table .entry)) (now (base .entry)) (now (shadow .entry)))
+        (now (file .entry)) (now (out .entry)) ⌝ }
 {
     dayfile::day::day(file, table, base, shadow, out)
 }

@@ -1,10 +1,2 @@
--- Facts that several proofs of the day file use.
-pub mod OverReader
-pub mod Faultless
-pub mod CopiedPart
-pub mod Texts
-pub mod Decimals
-pub mod Pieces
-pub mod Bounds
-pub mod Lines
+-- What is left between the calls that a day makes.
 pub mod Days

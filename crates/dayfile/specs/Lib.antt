@@ -1,6 +1,2 @@
--- The day file and its listing (document 01, "The day file"), in the order in which one would explain them.
-pub mod File
-pub mod Opening
-pub mod Listing
-pub mod Buffer
+-- RULES 11.4: a whole day in one call.
 pub mod Day

@@ -1,37 +1,47 @@
-// A whole day on lent stores.
+// A whole day on a lent ledger.
 ghost use mathlib.Core.Path.{_≡_};
-ghost use lib.ListN.{length};
-ghost use Rattle.engine.specs.Promise.{stateOf};
-ghost use Rattle.dayfile.specs.Buffer.{putAt};
-ghost use Rattle.dayfile.specs.File.{eventCount, eventsAt, fileFault};
-ghost use Rattle.dayfile.specs.Day.{dayCause, Accepts, dayRun, dayWords, evening, listing};
-use crate::file::file_fault;
-use crate::listing::put_listing;
-use crate::listing::put_refused;
-use crate::opening::open_base;
-use crate::reader::byte_at;
+ghost use Rattle.rules.specs.Ledger.{ledgerOf};
+ghost use Rattle.dayread.specs.File.{eventCount, eventsPlace};
+ghost use Rattle.dayread.specs.Opening.{IsFaultless};
+ghost use Rattle.dayfile.specs.Day.{dayCause, Accepts, HasAnswerRoom, dayRun, dayWords, dayOf, runDay};
+use dayread::file::file_fault;
+use dayread::opening::open_base;
+use dayread::reader::byte_at;
+use listing::lines::put_listing;
+use listing::lines::put_refused;
+use rules::cause;
+use rules::day::ANSWERS_LENGTH;
+use rules::day::CARD_COUNT_LENGTH;
+use rules::day::ENTRY_LENGTH;
+use rules::day::EVENT_COUNT_LENGTH;
+use rules::day::LISTING_LENGTH;
+use rules::event::EVENT_LENGTH;
+use rules::store::BASE_LENGTH;
+use rules::store::SHADOW_LENGTH;
+use rules::table::TABLE_LENGTH;
 
 fn day_cause(file: &[u8], table: &[u64], base: &[u8], shadow: &[u8]) -> u64
-    ensures { λ r. ⌜ r ≡ dayCause (stateOf (now (table .entry)) (now (base .entry)) (now (shadow .entry))) (now (file .entry)) ⌝ }
+    ensures { λ r. ⌜ r
+        ≡ dayCause (ledgerOf (now (table .entry)) (now (base .entry)) (now (shadow .entry))) (now (file .entry)) ⌝ }
 {
-    if base.len() != 1024 {
-        return 1;
+    if base.len() != BASE_LENGTH {
+        return cause::STORE_LENGTH;
     }
-    if shadow.len() != 65536 {
-        return 1;
+    if shadow.len() != SHADOW_LENGTH {
+        return cause::STORE_LENGTH;
     }
-    if table.len() != 4355 {
-        return 2;
+    if table.len() != TABLE_LENGTH {
+        return cause::UNSOUND;
     }
     file_fault(file)
 }
 
 // Where the events of a file without fault begin.
 fn events_at(file: &[u8]) -> usize
-    requires { ⌜ fileFault (now file) ≡ 0 ⌝ }
-    ensures { λ r. ⌜ r ≡ eventsAt (now (file .entry)) ⌝ }
+    requires { ⌜ IsFaultless (now file) ⌝ }
+    ensures { λ r. ⌜ r ≡ eventsPlace (now (file .entry)) ⌝ }
 {
-    3 + 33 * byte_at(file, 0)
+    CARD_COUNT_LENGTH + ENTRY_LENGTH * byte_at(file, 0) + EVENT_COUNT_LENGTH
 }
 
 // The events of a file without fault, run on a new table over its opening base store; back comes how many there are.
@@ -42,36 +52,38 @@ fn run_file(
     shadow: &mut [u8],
     answers: &mut [u64],
 ) -> usize
-    requires { ⌜ Accepts (stateOf (now table) (now base) (now shadow)) (now file) ⌝ }
-    requires { ⌜ length (now answers) ≡ 3000 ⌝ }
+    requires { ⌜ Accepts (ledgerOf (now table) (now base) (now shadow)) (now file) ⌝ }
+    requires { ⌜ HasAnswerRoom (now answers) ⌝ }
     ensures count { λ r. ⌜ r ≡ eventCount (now (file .entry)) ⌝ }
-    ensures leaves { λ r. ⌜ stateOf (now (table .exit)) (now (base .exit)) (now (shadow .exit)) ≡ dayRun (now (shadow .entry)) (now (file .entry)) .after ⌝ }
-    ensures answers { λ r. ⌜ now (answers .exit) ≡ dayWords (now (shadow .entry)) (now (file .entry)) (now (answers .entry)) ⌝ }
+    ensures leaves { λ r. ⌜ ledgerOf (now (table .exit)) (now (base .exit)) (now (shadow .exit))
+        ≡ dayRun (now (shadow .entry)) (now (file .entry)) .after ⌝ }
+    ensures answers { λ r. ⌜ now (answers .exit)
+        ≡ dayWords (now (shadow .entry)) (now (file .entry)) (now (answers .entry)) ⌝ }
 {
     table::open(table);
     open_base(file, base);
     let at = events_at(file);
-    engine::run::run(table, base, shadow, &file[at..], answers);
-    (file.len() - at) / 35
+    lists::run::run(table, base, shadow, &file[at..], answers);
+    (file.len() - at) / EVENT_LENGTH
 }
 
-// The listing's length; the listing stands at the front of its buffer, whose other bytes stay.
+// Back comes the listing's length; the listing stands at the front of its buffer.
 pub fn day(
     file: &[u8],
     table: &mut [u64],
     base: &mut [u8],
     shadow: &mut [u8],
-    out: &mut [u8; 65536],
+    out: &mut [u8; LISTING_LENGTH],
 ) -> usize
-    ensures length { λ r. ⌜ r ≡ length (listing (stateOf (now (table .entry)) (now (base .entry)) (now (shadow .entry))) (now (file .entry))) ⌝ }
-    ensures listing { λ r. ⌜ now (out .exit) ≡ putAt (now (out .entry)) 0 (listing (stateOf (now (table .entry)) (now (base .entry)) (now (shadow .entry))) (now (file .entry))) ⌝ }
-    ensures leaves { λ r. ⌜ stateOf (now (table .exit)) (now (base .exit)) (now (shadow .exit)) ≡ evening (stateOf (now (table .entry)) (now (base .entry)) (now (shadow .entry))) (now (file .entry)) ⌝ }
+    ensures { λ r. ⌜ dayOf r (now (out .exit)) (ledgerOf (now (table .exit)) (now (base .exit)) (now (shadow .exit)))
+        ≡ runDay (ledgerOf (now (table .entry)) (now (base .entry)) (now (shadow .entry)))
+        (now (file .entry)) (now (out .entry)) ⌝ }
 {
     let cause = day_cause(file, table, base, shadow);
-    if cause != 0 {
+    if cause != cause::NONE {
         return put_refused(out, cause);
     }
-    let mut answers = [0; 3000];
+    let mut answers = [0; ANSWERS_LENGTH];
     let count = run_file(file, table, base, shadow, &mut answers);
     put_listing(out, &answers, count, table)
 }

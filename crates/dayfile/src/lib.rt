@@ -1,7 +1,2 @@
-// The day file: reading it, running it on lent stores, and the listing of its answers.
+// A whole day: a file read, run on a lent ledger, and listed.
 pub mod day;
-mod file;
-mod listing;
-mod opening;
-mod reader;
-mod text;

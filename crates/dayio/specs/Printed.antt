@@ -5,11 +5,11 @@ use mathlib.Core.List.{List}
 use lib.ListN.{length, replicate}
 use Rattle.rules.specs.Card.{baseLength, shadowLength}
 use Rattle.rules.specs.Table.{newTable}
-use Rattle.rules.specs.Step.{State}
+use Rattle.rules.specs.Ledger.{Ledger}
 use Rattle.dayfile.specs.Day.{listing}
 
 -- a new table over two stores of zeros
-abbrev pub fresh : State
+abbrev pub fresh : Ledger
 fresh = record { table = newTable; base = replicate baseLength 0; shadow = replicate shadowLength 0 }
 
 -- n is the length of the listing of a file, the one that was read

@@ -1,19 +1,27 @@
 // A day from a file's descriptor to standard output: what the day program and its test share.
 // What is written stands in no contract, for the kit's write_all promises nothing of it: the programs' stdout files hold it.
 ghost use Rattle.dayio.specs.Printed.{IsListed};
+use rules::day::FILE_LENGTH;
+use rules::day::LISTING_LENGTH;
+use rules::store::BASE_LENGTH;
+use rules::store::SHADOW_LENGTH;
+use rules::table::TABLE_LENGTH;
 
-// Back comes the listing's length. The longest day file has 1 + 32 * 33 + 2 + 1,000 * 35 bytes; one byte more tells a file
-// that is too long.
+pub const STANDARD_INPUT: i32 = 0;
+
+pub const STANDARD_OUTPUT: i32 = 1;
+
+// Back comes the listing's length. One byte more than the longest day file has tells a file that is too long.
 pub fn print_listing(from: i32) -> usize
     ensures { λ r. ⌜ IsListed r ⌝ }
 {
-    let mut file = [0; 36060];
-    let mut table = [0; 4355];
-    let mut base = [0; 1024];
-    let mut shadow = [0; 65536];
-    let mut listing = [0; 65536];
+    let mut file = [0; FILE_LENGTH + 1];
+    let mut table = [0; TABLE_LENGTH];
+    let mut base = [0; BASE_LENGTH];
+    let mut shadow = [0; SHADOW_LENGTH];
+    let mut listing = [0; LISTING_LENGTH];
     let n = io::read_full(from, &mut file);
     let k = dayfile::day::day(&file[..n], &mut table, &mut base, &mut shadow, &mut listing);
-    io::write_all(1, &listing[..k]);
+    io::write_all(STANDARD_OUTPUT, &listing[..k]);
     k
 }

@@ -1,8 +1,10 @@
 // Every kind of day, each from a file of data/: its name, then its listing.
-// The expected lines were worked out by another program, written from document 01 alone.
+// The expected lines are those of the second engine (`compare/run lines FILE`).
+use dayio::STANDARD_OUTPUT;
+
 fn print_day(name: &[u8]) {
-    io::write_all(1, name);
-    io::write_all(1, b"\n");
+    io::write_all(STANDARD_OUTPUT, name);
+    io::write_all(STANDARD_OUTPUT, b"\n");
     let from = os::open_read(name);
     dayio::print_listing(from);
     libc::close(from);

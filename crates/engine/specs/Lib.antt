@@ -1,6 +1,2 @@
--- What the engine's contracts cite beside the rules.
-pub mod Place
-pub mod Cause
-pub mod Find
+-- What an event gives back.
 pub mod Promise
-pub mod Listed

@@ -1,14 +1,16 @@
 // An event that has no cause to be refused, by its code.
 ghost use mathlib.Core.Path.{_≡_};
+ghost use Rattle.rules.specs.Ledger.{ledgerOf};
+ghost use Rattle.rules.specs.Event.{eventOf};
 ghost use Rattle.rules.specs.Cause.{causeOf};
-ghost use Rattle.rules.specs.Step.{act};
-ghost use Rattle.engine.specs.Promise.{stateOf, eventOf, outcomeOf};
-use crate::abort::abort;
-use crate::commit::commit;
-use crate::read::read;
-use crate::start::start;
-use crate::write::write;
+ghost use Rattle.rules.specs.Step.{outcomeOf, act};
+use commits::commit::commit;
+use events::abort::abort;
+use events::read::read;
+use events::start::start;
+use events::write::write;
 use rules::Answer;
+use rules::event;
 
 pub(crate) fn act(
     table: &mut [u64],
@@ -20,21 +22,23 @@ pub(crate) fn act(
     card: &[u8],
 ) -> Answer
     requires { ⌜ causeOf (now table) (now base) (now shadow) (eventOf code number account (now card)) ≡ 0 ⌝ }
-    ensures { λ r. ⌜ outcomeOf r (now (table .exit)) (now (base .exit)) (now (shadow .exit)) ≡ act (stateOf (now (table .entry)) (now (base .entry)) (now (shadow .entry))) (eventOf code number account (now (card .entry))) ⌝ }
+    ensures { λ r. ⌜ outcomeOf r (now (table .exit)) (now (base .exit)) (now (shadow .exit))
+        ≡ act (ledgerOf (now (table .entry)) (now (base .entry)) (now (shadow .entry)))
+        (eventOf code number account (now (card .entry))) ⌝ }
 {
-    if code == 1 {
+    if code == event::START {
         let n = start(table, number);
         return Answer::Started(n);
     }
-    if code == 2 {
+    if code == event::READ {
         let holder = read(table, number, account);
         return Answer::Read(holder);
     }
-    if code == 3 {
+    if code == event::WRITE {
         write(table, shadow, number, account, card);
         return Answer::Written;
     }
-    if code == 4 {
+    if code == event::COMMIT {
         return commit(table, base, shadow, number);
     }
     let count = abort(table, number);

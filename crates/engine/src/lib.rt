@@ -1,21 +1,4 @@
-// The engine: every event, look and list of events, on a table and two stores that the caller lends.
-mod abort;
+// The open calls on a ledger that the caller lends: one event, and a look.
 mod act;
-pub mod answer;
-mod cards;
-mod cause;
-mod clash;
-mod commit;
 pub mod event;
-mod family;
-mod fields;
 pub mod look;
-mod place;
-mod read;
-pub mod run;
-mod sets;
-mod sound;
-mod start;
-mod walk;
-mod words;
-mod write;

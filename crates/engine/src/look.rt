@@ -1,13 +1,17 @@
-// A look: the card at the nearest version, as a part of one of the two stores.
+// A look: the card at the nearest version.
 ghost use mathlib.Core.Path.{_≡_};
-ghost use Rattle.rules.specs.Look.{look, bytesOf};
-use crate::cause::event_cause;
-use crate::cause::store_cause;
-use crate::place::shadow_place;
-use crate::walk::nearest;
+ghost use Rattle.rules.specs.Look.{look, lookedCard};
+use ancestry::walk::nearest;
+use causes::cause::event_cause;
+use causes::cause::store_cause;
+use rules::cause::NONE;
+use rules::event::READ;
+use rules::store::CARD_LENGTH;
+use stores::place::base_place;
+use stores::place::shadow_place;
 
-// The part of the lent base or shadow slice, and in `cause` 0; or the empty part at the start of the base store, and in
-// `cause` the number of the refusal.
+// Back comes a part of the lent base or shadow slice, and in `cause` none; a refused look gives no bytes of the base slice,
+// and in `cause` why.
 pub fn look<'a>(
     table: &[u64],
     base: &'a [u8],
@@ -16,27 +20,29 @@ pub fn look<'a>(
     k: u64,
     cause: &mut u64,
 ) -> &'a [u8]
-    ensures cause { λ r. ⌜ now (cause .exit) ≡ look (now (table .entry)) (now (base .entry)) (now (shadow .entry)) n k .cause ⌝ }
-    ensures bytes { λ r. ⌜ now r ≡ bytesOf (now (base .entry)) (now (shadow .entry)) (look (now (table .entry)) (now (base .entry)) (now (shadow .entry)) n k .part) ⌝ }
+    ensures cause { λ r. ⌜ now (cause .exit)
+        ≡ look (now (table .entry)) (now (base .entry)) (now (shadow .entry)) n k .cause ⌝ }
+    ensures bytes { λ r. ⌜ now r
+        ≡ lookedCard (now (table .entry)) (now (base .entry)) (now (shadow .entry)) n k ⌝ }
 {
     let outer = store_cause(table, base, shadow);
-    if outer != 0 {
+    if outer != NONE {
         *cause = outer;
         return &base[0..0];
     }
-    let inner = event_cause(table, 2, n, k, &base[0..0]);
-    if inner != 0 {
+    let inner = event_cause(table, READ, n, k, &base[0..0]);
+    if inner != NONE {
         *cause = inner;
         return &base[0..0];
     }
-    *cause = 0;
+    *cause = NONE;
     let holder = nearest(table, n, k);
     if holder == 0 {
-        let from = (32 * k) as usize;
-        let to = from + 32;
+        let from = base_place(k);
+        let to = from + CARD_LENGTH;
         return &base[from..to];
     }
     let from = shadow_place(holder, k);
-    let to = from + 32;
+    let to = from + CARD_LENGTH;
     &shadow[from..to]
 }

@@ -1,7 +1,7 @@
 -- The engine's events as the steps of which demand 3's proof speaks: what it sees of them, why a commit may pass, and
 -- demand 3 itself.
-pub mod See
-pub mod Seeing
+pub mod Abstraction
+pub mod AbstractionLaws
 pub mod Views
 pub mod Starts
 pub mod Reads

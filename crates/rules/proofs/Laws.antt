@@ -1,11 +1,14 @@
 -- Laws of the definitions, which everything else stands on.
 pub mod Tests
+pub mod Negated
 pub mod Ranges
 pub mod Puts
 pub mod Words
 pub mod Sets
 pub mod Cards
 pub mod Bytes
+pub mod CopiedPart
+pub mod AnswerWords
 pub mod Causes
-pub mod Steps
+pub mod EventCases
 pub mod Walking

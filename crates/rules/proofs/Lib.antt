@@ -3,6 +3,5 @@ pub mod Laws
 pub mod Sound
 pub mod Clash
 pub mod Stores
-pub mod Cases
 pub mod Serial
 pub mod Demand

@@ -2,12 +2,12 @@
 -- Settling on it is about the machine that takes the serial run's steps, and from Acts on about which steps these are.
 pub mod Values
 pub mod Blocks
-pub mod State
+pub mod AbstractState
 pub mod Change
 pub mod Events
 pub mod Invariant
 pub mod Grown
-pub mod Steps
+pub mod Preservation
 pub mod Rule
 pub mod Stale
 pub mod Settling

@@ -1,6 +1,6 @@
 -- Every event keeps every sound table sound: what a change must show, then event by event.
 pub mod Soundness
-pub mod Changes
+pub mod TableChanges
 pub mod Starting
 pub mod Reading
 pub mod Writing

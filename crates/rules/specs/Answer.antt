@@ -1,20 +1,15 @@
--- Answers: for each case of the type, document 01's word and the numbers that follow it, in their order.
--- Assumes nothing.
+-- RULES 5: what an answer says. Assumes nothing.
 use Prim.Native.Nat.{ℕ}
 use mathlib.Core.List.{List, [], _∷_}
 use Rattle.rules.specs.declared.Answer.{Answer}
 use Rattle.rules.specs.declared.Answer.the-variants.{Started, Read, Written, Committed, Failed, Aborted, Refused}
 
--- a word as its letters, in ASCII
+-- a word, as the ASCII codes of its letters, and numbers
 pub record Said : Type 0 where
   pub word : List ℕ
   pub numbers : List ℕ
 
-abbrev pub one : ℕ → List ℕ
-one n = n ∷ []
-
--- "Answer: started, number."  "read, and the number of the action whose card is the nearest version"  "written"
--- "committed, end time"  "failed, the end time and account of the clash"  "aborted, how many became so"  "refused 1"
+-- for each case of the type its word, `started` to `refused`, and its numbers in their order
 abbrev pub said : Answer → Said
 said (Started n) = record { word = 115 ∷ 116 ∷ 97 ∷ 114 ∷ 116 ∷ 101 ∷ 100 ∷ []; numbers = n ∷ [] }
 said (Read n) = record { word = 114 ∷ 101 ∷ 97 ∷ 100 ∷ []; numbers = n ∷ [] }

@@ -1,41 +1,58 @@
--- Cards and the two stores: how large they are, where a card stands, a card taken from a store and put into it
--- (document 01, "What the library holds"). Assumes nothing.
-use Prim.Native.Nat.{ℕ, _+_, _-_, _*_}
+-- Accounts, cards and the two stores: how large they are, where a card stands, a card taken from a store and put into it.
+-- Assumes nothing.
+use Prim.Native.Nat.{ℕ, _+_, _-_, _*_, _<_}
+use mathlib.Core.Path.{_≡_}
 use mathlib.Core.List.{List, _++_}
-use lib.ListN.{take, drop}
+use lib.ListN.{length, take, drop}
 use Rattle.rules.specs.Range.{upFrom}
 
--- "Accounts 0 to 31."
+-- RULES 1.1: how many accounts there are; they are numbered from 0
 abbrev pub accountCount : ℕ
 accountCount = 32
 
 unfoldable pub accounts : List ℕ
 accounts = upFrom 0 accountCount
 
--- "A card is 32 bytes."
+abbrev pub IsAccount : ℕ → Type 0
+IsAccount k = k < accountCount
+
+-- RULES 1.1: the bytes of a card
 abbrev pub cardLength : ℕ
 cardLength = 32
 
--- "The base store is 1,024 bytes"
+abbrev pub IsCard : List ℕ → Type 0
+IsCard card = length card ≡ cardLength
+
+-- RULES 1.2: the bytes of the base store, and the place of an account's card there
 abbrev pub baseLength : ℕ
 baseLength = 1024
 
--- "The shadow store is 65,536 bytes."
+abbrev pub basePlace : ℕ → ℕ
+basePlace k = cardLength * k
+
+-- RULES 1.4: the bytes of the shadow store, where action n's cards begin there, and the place of the one for account k
 abbrev pub shadowLength : ℕ
 shadowLength = 65536
 
--- "account k stands at 32 times k"
-abbrev pub basePlace : ℕ → ℕ
-basePlace k = 32 * k
+abbrev pub cardsPlace : ℕ → ℕ
+cardsPlace n = baseLength * (n - 1)
 
--- "Action n's card for account k stands at 1,024 times (n-1) plus 32 times k."
 abbrev pub shadowPlace : ℕ → ℕ → ℕ
-shadowPlace n k = 1024 * (n - 1) + 32 * k
+shadowPlace n k = cardsPlace n + basePlace k
+
+-- both stores have their lengths
+pub record StoresFit (base shadow : List ℕ) : Type 0 where
+  pub baseFits : length base ≡ baseLength
+  pub shadowFits : length shadow ≡ shadowLength
+
+-- all bytes of action n's in the shadow store
+unfoldable pub ownCards : List ℕ → ℕ → List ℕ
+ownCards shadow n = take baseLength (drop (cardsPlace n) shadow)
 
 -- the card that stands at a place of a store
 unfoldable pub cardAt : List ℕ → ℕ → List ℕ
 cardAt store at = take cardLength (drop at store)
 
--- the store with a card put at a place: no byte before or behind the card's 32 changes
+-- the store with a card put at a place: no byte before the card or behind it changes
 unfoldable pub withCard : List ℕ → ℕ → List ℕ → List ℕ
 withCard store at card = take at store ++ card ++ drop (at + cardLength) store

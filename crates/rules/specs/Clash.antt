@@ -1,14 +1,15 @@
--- Clashes at a commit (document 01, "4 commit"). Assumes nothing.
+-- RULES 4.2 and 4.3: clashes at a commit; document 01's term. Assumes nothing.
 use Prim.Native.Nat.{ℕ}
 use mathlib.Core.Bool.{Bool, cond, _&&_, _||_}
 use mathlib.Core.List.{List, [], _∷_, _++_}
 use lib.Dec.{ltb, leb, eqb}
-use Rattle.rules.specs.Range.{keep}
+use Rattle.rules.specs.declared.Found.{Found}
+use Rattle.rules.specs.declared.Found.the-variants.{Nothing, At}
+use Rattle.rules.specs.Range.{filter}
 use Rattle.rules.specs.Card.{accounts}
 use Rattle.rules.specs.Table.{parentOf, endTime, hasRead, readTime, hasWritten, records}
 
--- "an account in that write set which the action has read at a time less than that child's end time": of action n, at
--- account k, with record m
+-- RULES 4.2: action n clashes with record m over account k
 abbrev pub isClash : List ℕ → ℕ → ℕ → ℕ → Bool
 isClash w n m k = hasWritten w m k && hasRead w n k && ltb (readTime w n k) (endTime w m)
 
@@ -22,32 +23,28 @@ unfoldable pub pairsWith : ℕ → List ℕ → List Pair
 pairsWith m [] = []
 pairsWith m (k ∷ ks) = record { holder = m; account = k } ∷ pairsWith m ks
 
--- "the action's clash list is made of pairs": every record of the action's parent with every account at which it clashes
+-- each of the records ms with every account over which n clashes with it
 unfoldable pub clashesWith : List ℕ → ℕ → List ℕ → List Pair
 clashesWith w n [] = []
-clashesWith w n (m ∷ ms) = pairsWith m (keep (isClash w n m) accounts) ++ clashesWith w n ms
+clashesWith w n (m ∷ ms) = pairsWith m (filter (isClash w n m) accounts) ++ clashesWith w n ms
 
+-- RULES 4.2: the clash list of action n
 unfoldable pub clashes : List ℕ → ℕ → List Pair
 clashes w n = clashesWith w n (records w (parentOf w n))
 
--- what a commit's clash answer names: the end time and the account of a clash, or that there is none
-pub data Found : Type 0 where
-  none : Found
-  at : ℕ → ℕ → Found
-
--- (t, k) comes before (u, l): a smaller end time "and, within that, the smallest account"
+-- (t, k) comes before (u, l): by end time, and within one end time by account
 abbrev pub isBefore : ℕ → ℕ → ℕ → ℕ → Bool
 isBefore t k u l = ltb t u || eqb t u && leb k l
 
 abbrev pub earlier : ℕ → ℕ → Found → Found
-earlier t k none = at t k
-earlier t k (at u l) = cond (isBefore t k u l) (at t k) (at u l)
+earlier t k Nothing = At t k
+earlier t k (At u l) = cond (isBefore t k u l) (At t k) (At u l)
 
--- "the end time and account of the clash with the smallest end time and, within that, the smallest account"
+-- the end time and the account of the first of these pairs
 unfoldable pub least : List ℕ → List Pair → Found
-least w [] = none
+least w [] = Nothing
 least w (c ∷ cs) = earlier (endTime w (c .holder)) (c .account) (least w cs)
 
--- the clash that a commit of action n answers
+-- RULES 4.3: the first clash of action n, which its commit answers
 unfoldable pub firstClash : List ℕ → ℕ → Found
 firstClash w n = least w (clashes w n)

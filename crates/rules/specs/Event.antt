@@ -1,6 +1,5 @@
--- Events: "An event has a code, a number (action, or the parent for a start), an account and a card. Parts an event
--- doesn't use are ignored." Any number and any card may stand in an event; what is wrong with one is its cause
--- (Cause.antt). Assumes nothing.
+-- RULES 2.1: events. Any number and any card may stand in one; what is wrong with it is its cause (Cause.antt).
+-- Assumes nothing.
 use Prim.Native.Nat.{ℕ}
 use mathlib.Core.Bool.{Bool}
 use mathlib.Core.List.{List, []}
@@ -12,31 +11,49 @@ pub record Event : Type 0 where
   pub account : ℕ
   pub card : List ℕ
 
--- "1 start", "2 read", "3 write", "4 commit", "5 abort"
+abbrev pub eventOf : ℕ → ℕ → ℕ → List ℕ → Event
+eventOf code number account card = record { code = code; number = number; account = account; card = card }
+
+-- the codes
+abbrev pub startCode : ℕ
+startCode = 1
+
+abbrev pub readCode : ℕ
+readCode = 2
+
+abbrev pub writeCode : ℕ
+writeCode = 3
+
+abbrev pub commitCode : ℕ
+commitCode = 4
+
+abbrev pub abortCode : ℕ
+abortCode = 5
+
 abbrev pub isStart : Event → Bool
-isStart e = eqb (e .code) 1
+isStart e = eqb (e .code) startCode
 
 abbrev pub isRead : Event → Bool
-isRead e = eqb (e .code) 2
+isRead e = eqb (e .code) readCode
 
 abbrev pub isWrite : Event → Bool
-isWrite e = eqb (e .code) 3
+isWrite e = eqb (e .code) writeCode
 
 abbrev pub isCommit : Event → Bool
-isCommit e = eqb (e .code) 4
+isCommit e = eqb (e .code) commitCode
 
--- the events by name, with nothing in the parts that they don't use
+-- the events by name, with nothing in the parts that they have no use for
 abbrev pub startUnder : ℕ → Event
-startUnder p = record { code = 1; number = p; account = 0; card = [] }
+startUnder p = eventOf startCode p 0 []
 
 abbrev pub readBy : ℕ → ℕ → Event
-readBy n k = record { code = 2; number = n; account = k; card = [] }
+readBy n k = eventOf readCode n k []
 
 abbrev pub writeBy : ℕ → ℕ → List ℕ → Event
-writeBy n k c = record { code = 3; number = n; account = k; card = c }
+writeBy n k c = eventOf writeCode n k c
 
 abbrev pub commitOf : ℕ → Event
-commitOf n = record { code = 4; number = n; account = 0; card = [] }
+commitOf n = eventOf commitCode n 0 []
 
 abbrev pub abortOf : ℕ → Event
-abortOf n = record { code = 5; number = n; account = 0; card = [] }
+abortOf n = eventOf abortCode n 0 []

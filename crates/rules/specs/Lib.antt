@@ -1,11 +1,13 @@
--- Document 01 as definitions that compute, in the order in which one would explain it.
+-- The rules (docs/RULES.md) as definitions that compute, in the order in which one would explain them.
 pub mod Range
 pub mod Card
 pub mod Table
+pub mod Ledger
 pub mod Walk
 pub mod Sound
 pub mod Event
 pub mod Answer
+pub mod Encoding
 pub mod Cause
 pub mod Nearest
 pub mod Look
@@ -14,5 +16,4 @@ pub mod Search
 pub mod Step
 pub mod Run
 pub mod Touch
-pub mod Case
 pub mod Serial

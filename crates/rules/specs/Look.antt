@@ -1,4 +1,4 @@
--- A look: "given action and account, the card is handed back as a part of one of the two stores". Assumes nothing.
+-- RULES 3.2: a look; document 01's term. Assumes nothing.
 use Prim.Native.Nat.{ℕ}
 use mathlib.Core.Bool.{true, false, not, cond}
 use mathlib.Core.List.{List, [], _∷_}
@@ -6,19 +6,19 @@ use lib.Dec.{eqb}
 use lib.ListN.{take, drop}
 use Rattle.rules.specs.Card.{cardLength, basePlace, shadowPlace}
 use Rattle.rules.specs.Sound.{sound}
-use Rattle.rules.specs.Cause.{lowest, isStoreMisfit, isNumberUnknown, isNotLive, isAccountUnknown, isChildLive}
+use Rattle.rules.specs.Cause.{firstCause, storeLengthCause, isStoreLengthWrong, unsoundCause, numberCause, isNumberUnknown, notLiveCause, isNotLive, accountCause, isAccountUnknown, childLiveCause, isChildLive}
 use Rattle.rules.specs.Nearest.{nearest}
 
--- A look's causes, which are those of a read (proofs/Stores/Looking.antt has that as a theorem).
+-- RULES 8.3: its causes, which are a read's (proofs/Stores/Looking.antt)
 unfoldable pub lookCause : List ℕ → List ℕ → List ℕ → ℕ → ℕ → ℕ
 lookCause w base shadow n k =
-    lowest
-    (record { number = 1; applies = isStoreMisfit base shadow }
-    ∷ record { number = 2; applies = not (sound w) }
-    ∷ record { number = 4; applies = isNumberUnknown w false n }
-    ∷ record { number = 5; applies = isNotLive w n }
-    ∷ record { number = 7; applies = isAccountUnknown true k }
-    ∷ record { number = 9; applies = isChildLive w true n }
+    firstCause
+    (record { number = storeLengthCause; applies = isStoreLengthWrong base shadow }
+    ∷ record { number = unsoundCause; applies = not (sound w) }
+    ∷ record { number = numberCause; applies = isNumberUnknown w false n }
+    ∷ record { number = notLiveCause; applies = isNotLive w n }
+    ∷ record { number = accountCause; applies = isAccountUnknown true k }
+    ∷ record { number = childLiveCause; applies = isChildLive w true n }
     ∷ [])
 
 -- one of the two stores
@@ -31,22 +31,22 @@ pub record Part : Type 0 where
   pub place : ℕ
   pub size : ℕ
 
+-- what a look gives: its cause, 0 where it has none, and a part
 pub record Looked : Type 0 where
   pub cause : ℕ
   pub part : Part
 
--- "the empty part at the start of the base store"
+-- the part of a refused look
 abbrev pub emptyPart : Part
 emptyPart = record { store = inBase; place = 0; size = 0 }
 
--- the card of an action for an account; the store's, number 0, is the base card
+-- the card of account k that n holds: an action's own card, or the base card where n is 0
 abbrev pub cardPart : ℕ → ℕ → Part
 cardPart n k =
     cond (eqb n 0)
     (record { store = inBase; place = basePlace k; size = cardLength })
     (record { store = inShadow; place = shadowPlace n k; size = cardLength })
 
--- "at the nearest version"
 unfoldable pub look : List ℕ → List ℕ → List ℕ → ℕ → ℕ → Looked
 look w base shadow n k =
     let cause = lookCause w base shadow n k in
@@ -54,13 +54,13 @@ look w base shadow n k =
     (record { cause = 0; part = cardPart (nearest w n k) k })
     (record { cause = cause; part = emptyPart })
 
--- the bytes of a part of the two stores
-abbrev pub held : List ℕ → List ℕ → Store → List ℕ
-held base shadow inBase = base
-held base shadow inShadow = shadow
+-- the bytes of a part, by the store that it is of
+abbrev pub bytesIn : List ℕ → List ℕ → Store → List ℕ
+bytesIn base shadow inBase = base
+bytesIn base shadow inShadow = shadow
 
 abbrev pub bytesOf : List ℕ → List ℕ → Part → List ℕ
-bytesOf base shadow p = take (p .size) (drop (p .place) (held base shadow (p .store)))
+bytesOf base shadow p = take (p .size) (drop (p .place) (bytesIn base shadow (p .store)))
 
 -- the card that a look shows
 abbrev pub lookedCard : List ℕ → List ℕ → List ℕ → ℕ → ℕ → List ℕ

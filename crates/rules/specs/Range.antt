@@ -1,5 +1,5 @@
--- Runs of numbers, and what is asked of them or done for each of them: document 01 speaks of "each account"
--- and "each started action". Assumes nothing.
+-- Runs of numbers, and what is asked of them or done for each: what the rules say of every account or every action.
+-- Assumes nothing.
 use Prim.Native.Nat.{ℕ, zero, suc}
 use mathlib.Core.Bool.{Bool, true, false, cond, _&&_, _||_}
 use mathlib.Core.List.{List, [], _∷_}
@@ -25,11 +25,11 @@ count f [] = zero
 count f (x ∷ xs) = let rest = count f xs in cond (f x) (suc rest) rest
 
 -- those of which f holds, in their order
-unfoldable pub keep : (ℕ → Bool) → List ℕ → List ℕ
-keep f [] = []
-keep f (x ∷ xs) = let rest = keep f xs in cond (f x) (x ∷ rest) rest
+unfoldable pub filter : (ℕ → Bool) → List ℕ → List ℕ
+filter f [] = []
+filter f (x ∷ xs) = let rest = filter f xs in cond (f x) (x ∷ rest) rest
 
--- a changed by f once for each of them, in their order
-unfoldable pub each : {A : Type 0} → (ℕ → A → A) → List ℕ → A → A
-each f [] a = a
-each f (x ∷ xs) a = each f xs (f x a)
+-- a, changed by f once for each of them, in their order
+unfoldable pub fold : {A : Type 0} → (ℕ → A → A) → List ℕ → A → A
+fold f [] a = a
+fold f (x ∷ xs) a = fold f xs (f x a)

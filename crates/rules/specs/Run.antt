@@ -1,14 +1,15 @@
--- A list of events, one after the other: every answer, and what stands at the end. Assumes nothing.
+-- RULES 2.9: a list of events, one after the other: every answer, and what stands at the end. Assumes nothing.
 use mathlib.Core.List.{List, [], _∷_}
 use Rattle.rules.specs.declared.Answer.{Answer}
 use Rattle.rules.specs.Event.{Event}
-use Rattle.rules.specs.Step.{State, step}
+use Rattle.rules.specs.Ledger.{Ledger}
+use Rattle.rules.specs.Step.{step}
 
 pub record Ran : Type 0 where
   pub answers : List Answer
-  pub after : State
+  pub after : Ledger
 
-unfoldable pub run : State → List Event → Ran
+unfoldable pub run : Ledger → List Event → Ran
 run s [] = record { answers = []; after = s }
 run s (e ∷ es) =
     let one = step s e in

@@ -1,9 +1,8 @@
--- The serial run of R, and demand 3 (document 01, "The serial run of R"), in the order in which one would explain it.
+-- RULES 6: the serial run of R, and demand 3, in the order in which one would explain them.
 pub mod Effect
 pub mod Block
 pub mod Collect
-pub mod Steps
+pub mod Schedule
 pub mod Machine
 pub mod Reach
 pub mod Demand
-pub mod Example

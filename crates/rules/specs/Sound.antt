@@ -1,5 +1,5 @@
--- A sound table, clause by clause (document 01, "A sound table"): each as a test, and the facts that the test stands
--- for as a record; proofs/Sound/Soundness.antt goes from the one to the other and back. Assumes nothing.
+-- RULES 7: a sound table, clause by clause: each as a test, and the facts that the tests stand for as a record;
+-- proofs/Sound/Soundness.antt goes from the one to the other and back. Assumes nothing.
 use Prim.Native.Nat.{ℕ, _-_, _≤_, _<_}
 use mathlib.Core.Path.{_≡_}
 use mathlib.Core.Logic.{_⊎_}
@@ -11,35 +11,35 @@ use Rattle.rules.specs.Range.{upFrom, all, count}
 use Rattle.rules.specs.Card.{accountCount, accounts}
 use Rattle.rules.specs.Table.{tableLength, mostActions, live, committed, aborted, started, counter, parentOf, stateOf, endTime, hasRead, readTime, isLive, isCommitted, hasEnd, actions}
 
--- "An action is live, committed or aborted.": no other word stands for a state
+-- 7.4
 abbrev pub hasState : List ℕ → ℕ → Bool
 hasState w n = eqb (stateOf w n) live || eqb (stateOf w n) committed || eqb (stateOf w n) aborted
 
--- "each started action's parent is below its own number"
+-- 7.5
 abbrev pub hasParentBelow : List ℕ → ℕ → Bool
 hasParentBelow w n = ltb (parentOf w n) n
 
--- "a live action's parent is 0 or live"
+-- 7.6
 abbrev pub hasParentAlive : List ℕ → ℕ → Bool
 hasParentAlive w n = not (isLive w n) || (eqb (parentOf w n) 0 || isLive w (parentOf w n))
 
--- "each read time of a live action is at most the counter"
+-- 7.7
 unfoldable pub hasReadInTime : List ℕ → ℕ → Bool
 hasReadInTime w n =
     not (isLive w n) || all (λ k. not (hasRead w n k) || leb (readTime w n k) (counter w)) accounts
 
--- "each committed action with a non-empty write set has an end time from 1 to the counter"
+-- 7.8
 abbrev pub hasEndInTime : List ℕ → ℕ → Bool
 hasEndInTime w n = not (hasEnd w n) || (leb 1 (endTime w n) && leb (endTime w n) (counter w))
 
--- "no two of these with the same parent have the same one": none with a lower number does
-abbrev pub isTwin : List ℕ → ℕ → ℕ → Bool
-isTwin w n m = hasEnd w m && eqb (parentOf w m) (parentOf w n) && eqb (endTime w m) (endTime w n)
+-- 7.9: m has the same parent as n, and as a committed writer the same end time; asked of the numbers below n
+abbrev pub sharesEndTime : List ℕ → ℕ → ℕ → Bool
+sharesEndTime w n m = hasEnd w m && eqb (parentOf w m) (parentOf w n) && eqb (endTime w m) (endTime w n)
 
 unfoldable pub hasEndAlone : List ℕ → ℕ → Bool
-hasEndAlone w n = not (hasEnd w n) || all (λ m. not (isTwin w n m)) (upFrom 1 (n - 1))
+hasEndAlone w n = not (hasEnd w n) || all (λ m. not (sharesEndTime w n m)) (upFrom 1 (n - 1))
 
--- the clauses that speak of one started action
+-- the clauses that speak of one action
 unfoldable pub isSoundAction : List ℕ → ℕ → Bool
 isSoundAction w n =
     hasState w n
@@ -49,7 +49,7 @@ isSoundAction w n =
     && hasEndInTime w n
     && hasEndAlone w n
 
--- "Sound means: started at most 64; counter at most the number of committed actions; each started action's .."
+-- 7.1, 7.2, 7.3, and those clauses of each action
 unfoldable pub sound : List ℕ → Bool
 sound w =
     eqb (length w) tableLength
@@ -61,7 +61,7 @@ sound w =
 abbrev pub IsStarted : List ℕ → ℕ → Type 0
 IsStarted w n = (1 ≤ n) × (n ≤ started w)
 
--- The same clauses as facts.
+-- the same clauses as facts
 pub record Sound (w : List ℕ) : Type 0 where
   pub long : length w ≡ tableLength
   pub few : started w ≤ mostActions
@@ -69,7 +69,9 @@ pub record Sound (w : List ℕ) : Type 0 where
   pub states : (n : ℕ) → IsStarted w n → hasState w n ≡ true
   pub below : (n : ℕ) → IsStarted w n → parentOf w n < n
   pub alive : (n : ℕ) → IsStarted w n → isLive w n ≡ true → (parentOf w n ≡ 0) ⊎ (isLive w (parentOf w n) ≡ true)
-  pub reads : (n k : ℕ) → IsStarted w n → isLive w n ≡ true → k < accountCount → hasRead w n k ≡ true → readTime w n k ≤ counter w
+  pub reads :
+      (n k : ℕ) → IsStarted w n → isLive w n ≡ true → k < accountCount → hasRead w n k ≡ true → readTime w n k ≤ counter w
   pub ends : (n : ℕ) → IsStarted w n → hasEnd w n ≡ true → (1 ≤ endTime w n) × (endTime w n ≤ counter w)
   pub alone :
-      (n m : ℕ) → IsStarted w n → IsStarted w m → hasEnd w n ≡ true → hasEnd w m ≡ true → parentOf w m ≡ parentOf w n → endTime w m ≡ endTime w n → m ≡ n
+      (n m : ℕ) → IsStarted w n → IsStarted w m → hasEnd w n ≡ true → hasEnd w m ≡ true →
+      parentOf w m ≡ parentOf w n → endTime w m ≡ endTime w n → m ≡ n

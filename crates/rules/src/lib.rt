@@ -1,10 +1,18 @@
-// The answers of the engine, as a type. What each one says, in document 01's words and numbers, is
-// listed by the definition `said` in specs/Answer.antt, and every promise goes through that definition.
+// What the rules say in types and numbers: answers, the outcome of a clash search, and every size, place and code by name.
+// The definitions of specs/ are the rules themselves; nothing here computes.
+pub mod cause;
+pub mod day;
+pub mod event;
+pub mod kind;
+pub mod store;
+pub mod table;
 
+// RULES 5: an event's answer. Its word and its numbers are listed by the definition `said` of specs/Answer.antt, and every
+// promise goes through that definition.
 pub enum Answer {
     // the number that the new action got
     Started(u64),
-    // the action whose card is the nearest version, 0 for the base store
+    // the holder of the nearest version
     Read(u64),
     Written,
     // the end time, 0 where nothing was written
@@ -15,4 +23,11 @@ pub enum Answer {
     Aborted(u64),
     // the number of the cause
     Refused(u64),
+}
+
+// RULES 4: the first clash of an action that asks to commit.
+pub enum Found {
+    Nothing,
+    // its end time and its account
+    At(u64, u64),
 }

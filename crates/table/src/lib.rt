@@ -1,41 +1,49 @@
-// A table's beginning and its two totals: all that a caller asks of a table outside of events.
+// A new table, and a table's two totals: all that a caller asks of a table outside of events.
 ghost use mathlib.Core.Path.{_≡_};
 ghost use Rattle.rules.specs.Table.{started, counter};
 ghost use Rattle.table.specs.Open.{openCause, openTable};
+use rules::cause;
+use rules::table::COUNTER_FIELD;
+use rules::table::STARTED_FIELD;
+use rules::table::TABLE_LENGTH;
 
-// A new table in a lent buffer, whatever stood there: 0, or the cause 2 where the buffer has no table's length; it then
-// stays as it was.
+// The head is the table's first row, so that its fields stand where they are numbered.
+const STARTED_AT: usize = STARTED_FIELD as usize;
+
+const COUNTER_AT: usize = COUNTER_FIELD as usize;
+
+// A new table in a lent buffer, whatever stood there; back comes the cause. A buffer of another length stays as it was.
 pub fn open(table: &mut [u64]) -> u64
     ensures cause { λ r. ⌜ r ≡ openCause (now (table .entry)) ⌝ }
     ensures leaves { λ r. ⌜ now (table .exit) ≡ openTable (now (table .entry)) ⌝ }
 {
-    if table.len() != 4355 {
-        return 2;
+    if table.len() != TABLE_LENGTH {
+        return cause::UNSOUND;
     }
     let mut i = 0;
-    while i < 4355 {
+    while i < TABLE_LENGTH {
         table[i] = 0;
         i += 1;
     }
-    0
+    cause::NONE
 }
 
-// The actions started, of any table: 0 where it has no such word.
+// The last start, of any table: 0 where it has no such word.
 pub fn started(table: &[u64]) -> u64
     ensures { λ r. ⌜ r ≡ started (now (table .entry)) ⌝ }
 {
-    if table.len() < 1 {
+    if table.len() <= STARTED_AT {
         return 0;
     }
-    table[0]
+    table[STARTED_AT]
 }
 
 // The counter, of any table: 0 where it has no such word.
 pub fn counter(table: &[u64]) -> u64
     ensures { λ r. ⌜ r ≡ counter (now (table .entry)) ⌝ }
 {
-    if table.len() < 2 {
+    if table.len() <= COUNTER_AT {
         return 0;
     }
-    table[1]
+    table[COUNTER_AT]
 }

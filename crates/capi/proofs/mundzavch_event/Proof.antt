@@ -1,7 +1,8 @@
 -- The three numbers handed back are the words of the answer, which says what the rule's answer says. Assumes nothing.
 use mathlib.Core.Path.{_∙_}
 use borrow.Author.Needs.{needs}
-use Rattle.engine.proofs.AnswerWords.{three-words, words-given}
+use Rattle.rules.proofs.Laws.AnswerWords.{three-words}
+use Rattle.lists.proofs.AnswerWords.{words-given}
 use Rattle.capi.proofs.mundzavch_event.Statement.{statement}
 use Rattle.capi.proofs.mundzavch_event.Tie as tie
 
@@ -32,7 +33,10 @@ same-length-3 c = search needs
 returns : tie.Need-returns
 returns c =
     let event = c .before .before .before .before .before .before .before .event in
-    (rw (c .words .ensures) (three-words (event .result) ∙ words-given (event .ensures)), event .ensures .leaves)
+    record {
+      says = rw (c .words .ensures) (three-words (event .result) ∙ words-given (event .ensures));
+      leaves = event .ensures .leaves;
+    }
 
 pub mundzavch-event-spec : {M : Type 1} → statement M
 mundzavch-event-spec =

@@ -6,7 +6,8 @@ use lib.ListN.{length-replicate}
 use lib.Seq.{length-take-le}
 use borrow.Author.Needs.{needs}
 use Rattle.rules.specs.Table.{newTable}
-use Rattle.dayfile.proofs.Days.{printed-fits}
+use Rattle.listing.specs.Buffer.{listingLength}
+use Rattle.dayfile.proofs.Days.{printed-fits, day-size}
 use Rattle.dayio.proofs.print_listing.Statement.{statement}
 use Rattle.dayio.proofs.print_listing.Tie as tie
 
@@ -37,19 +38,19 @@ day-requires c κs = search needs
 array-share-prefix-listing : tie.Need-array-share-prefix-listing
 array-share-prefix-listing c =
     let listed = c .before .before .before in
-    printed-fits _ _ _ (length-replicate {A = ℕ} 65536 0) (listed .day .ensures .0) (listed .day .ensures .1 .0)
+    printed-fits _ _ _ (listed .day .ensures) (length-replicate {A = ℕ} listingLength 0)
 
 slice-aggregate-write-all : tie.Need-slice-aggregate-write-all
 slice-aggregate-write-all c =
     let listed = c .before .before .before .before in
-    sym (length-take-le _ _ (printed-fits _ _ _ (length-replicate {A = ℕ} 65536 0) (listed .day .ensures .0) (listed .day .ensures .1 .0)))
+    sym (length-take-le _ _ (printed-fits _ _ _ (listed .day .ensures) (length-replicate {A = ℕ} listingLength 0)))
 
 write-all-requires : tie.Need-write-all-requires
 write-all-requires c κs = search needs
 
 returns : tie.Need-returns
 unfolding newTable
-returns c = record { file = _; listed = c .before .before .before .before .before .day .ensures .0 }
+returns c = record { file = _; listed = day-size _ _ _ (c .before .before .before .before .before .day .ensures) }
 
 pub print-listing-spec : {M : Type 1} → statement M
 print-listing-spec =

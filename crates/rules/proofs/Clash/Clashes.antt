@@ -7,26 +7,29 @@ use mathlib.Core.Logic.{_↔_, _≢_, _⊎_, inl, inr, ⊎-elim}
 use mathlib.Core.Bool.{true, false, _&&_}
 use mathlib.Core.List.{List, [], _∷_, List·Memᴰ, List·Memᴰ·head, List·Memᴰ·tail, List·Memᴰ·not-nil, List·Memᴰ·cases-cons, List·Memᴰ·append-cases, Memᴰ·append-left, Memᴰ·append-right}
 use lib.Dec.{ltb, leb, eqb}
-use borrow.Author.Tests.{ltb-true, ltb-false, leb-true, leb-false, eqb-true, eqb-false}
+use borrow.Author.Tests.{ltb-true, ltb-false, le-ltb, leb-true, leb-false, eqb-true, eqb-false}
 use Rattle.rules.specs.declared.Answer.the-variants.{Committed, Failed}
-use Rattle.rules.specs.Range.{keep}
+use Rattle.rules.specs.Range.{filter}
 use Rattle.rules.specs.Card.{accountCount, accounts}
 use Rattle.rules.specs.Table.{started, parentOf, endTime, hasRead, readTime, hasWritten, actions, isRecordOf, records}
 use Rattle.rules.specs.Sound.{IsStarted}
-use Rattle.rules.specs.Clash.{isClash, Pair, pairsWith, clashesWith, clashes, Found, none, at, isBefore, earlier, least, firstClash}
+use Rattle.rules.specs.declared.Found.{Found}
+use Rattle.rules.specs.declared.Found.the-variants.{Nothing, At}
+use Rattle.rules.specs.Clash.{isClash, Pair, pairsWith, clashesWith, clashes, isBefore, earlier, least, firstClash}
 use Rattle.rules.specs.Event.{Event, isCommit}
-use Rattle.rules.specs.Step.{State, commitTime, judged, commit, step}
-use Rattle.rules.proofs.Laws.Steps.{causeIn, step-commits}
-use Rattle.rules.proofs.Laws.Tests.{and-left, and-right, or-cases, or-neither, test, not-both}
-use Rattle.rules.proofs.Laws.Ranges.{keep-only, keep-every}
+use Rattle.rules.specs.Ledger.{Ledger}
+use Rattle.rules.specs.Step.{commitTime, judged, commit, step}
+use Rattle.rules.proofs.Laws.EventCases.{causeIn, step-commits}
+use Rattle.rules.proofs.Laws.Tests.{and-left, and-right, and-false, or-cases, or-neither, test, not-both}
+use Rattle.rules.proofs.Laws.Ranges.{filter-only, filter-every}
 
 -- ---- what is in the list
 
 pub in-records : (w : List ℕ) (p m : ℕ) → List·Memᴰ m (records w p) ↔ (IsStarted w m × (isRecordOf w p m ≡ true))
 unfolding records actions
 in-records w p m = (
-  λ r. let h = keep-only (isRecordOf w p) 1 (started w) m r in (omega arith, h .1),
-  λ h. keep-every (isRecordOf w p) 1 (started w) m (omega arith) (h .1),
+  λ r. let h = filter-only (isRecordOf w p) 1 (started w) m r in (omega arith, h .1),
+  λ h. filter-every (isRecordOf w p) 1 (started w) m (omega arith) (h .1),
 )
 
 pairsWith-only :
@@ -48,7 +51,7 @@ pairsWith-every c e (List·Memᴰ·tail r) = List·Memᴰ·tail (pairsWith-every
 module _ (w : List ℕ) (n : ℕ) where
   -- the accounts at which n clashes with m
   abbrev clashing : ℕ → List ℕ
-  clashing m = keep (isClash w n m) accounts
+  clashing m = filter (isClash w n m) accounts
 
   clashesWith-only :
       (c : Pair) (ms : List ℕ) → List·Memᴰ c (clashesWith w n ms) →
@@ -68,8 +71,7 @@ module _ (w : List ℕ) (n : ℕ) where
   clashesWith-every c (List·Memᴰ·head e) q = Memᴰ·append-left _ (pairsWith-every c e (rw e at q))
   clashesWith-every c (List·Memᴰ·tail {x = m} r) q = Memᴰ·append-right (pairsWith m (clashing m)) (clashesWith-every c r q)
 
--- c belongs in n's clash list: "a committed child of the same parent with a non-empty write set, and an account in that
--- write set which the action has read at a time less than that child's end time"
+-- RULES 4.2: c belongs in n's clash list, as facts
 pub record IsClashing (w : List ℕ) (n : ℕ) (c : Pair) : Type 0 where
   pub begun : IsStarted w (c .holder)
   pub isRecord : isRecordOf w (parentOf w n) (c .holder) ≡ true
@@ -84,14 +86,14 @@ in-clashes w n c = (only, every)
     only p =
         let both = clashesWith-only w n c (records w (parentOf w n)) p in
         let holder = in-records w (parentOf w n) (c .holder) .0 (both .0) in
-        let account = keep-only (isClash w n (c .holder)) 0 accountCount (c .account) (both .1) in
+        let account = filter-only (isClash w n (c .holder)) 0 accountCount (c .account) (both .1) in
         record { begun = holder .0; isRecord = holder .1; known = omega arith; clash = account .1 }
 
     every : IsClashing w n c → List·Memᴰ c (clashes w n)
     every h =
         clashesWith-every w n c
         (in-records w (parentOf w n) (c .holder) .1 (h .begun, h .isRecord))
-        (keep-every (isClash w n (c .holder)) 0 accountCount (c .account) (omega arith) (h .clash))
+        (filter-every (isClash w n (c .holder)) 0 accountCount (c .account) (omega arith) (h .clash))
 
 -- ---- when it is empty
 
@@ -104,7 +106,12 @@ clash-was-read w n m k h =
     and-right (hasWritten w m k) (hasRead w n k)
     (and-left (hasWritten w m k && hasRead w n k) (ltb (readTime w n k) (endTime w m)) h)
 
--- "An empty read set never clashes."
+-- a read at the time at which the record ended, or later, doesn't clash with it
+pub later-read-never-clashes : (w : List ℕ) (n m k : ℕ) → endTime w m ≤ readTime w n k → isClash w n m k ≡ false
+later-read-never-clashes w n m k later =
+    rw (le-ltb (readTime w n k) (endTime w m) later) (and-false (hasWritten w m k && hasRead w n k))
+
+-- RULES 4.2: an action that has read nothing never clashes
 pub unread-never-clashes :
     (w : List ℕ) (n : ℕ) → ((k : ℕ) → k < accountCount → hasRead w n k ≡ false) → clashes w n ≡ []
 unread-never-clashes w n unread = empty-of-no-member (clashes w n) never
@@ -156,14 +163,14 @@ pub record IsFirstOf (w : List ℕ) (P : Pair → Type 0) (t k : ℕ) : Type 0 w
 
 -- f names the first of the pairs with P, or says that there is none
 pub data Finds (w : List ℕ) (P : Pair → Type 0) : Found → Type 0 where
-  finds-none : ((c : Pair) → P c → ⊥) → Finds w P none
-  finds-at : {t k : ℕ} → IsFirstOf w P t k → Finds w P (at t k)
+  finds-none : ((c : Pair) → P c → ⊥) → Finds w P Nothing
+  finds-at : {t k : ℕ} → IsFirstOf w P t k → Finds w P (At t k)
 
 module _ {w : List ℕ} {P : Pair → Type 0} where
-  nothing-found : Finds w P none → (c : Pair) → P c → ⊥
+  nothing-found : Finds w P Nothing → (c : Pair) → P c → ⊥
   nothing-found (finds-none h) = h
 
-  first-found : {t k : ℕ} → Finds w P (at t k) → IsFirstOf w P t k
+  first-found : {t k : ℕ} → Finds w P (At t k) → IsFirstOf w P t k
   first-found (finds-at h) = h
 
   -- there is at most one first
@@ -173,7 +180,7 @@ module _ {w : List ℕ} {P : Pair → Type 0} where
   finds-once (finds-at p) (finds-none q) = absurd (q _ (p .listed))
   finds-once (finds-at p) (finds-at q) =
       let same = before-antisym (rw (q .time) at (p .first _ (q .listed))) (rw (p .time) at (q .first _ (p .listed))) in
-      ap₂ at (same .0) (same .1)
+      ap₂ At (same .0) (same .1)
 
   -- the same pairs have the same first
   pub finds-same : {Q : Pair → Type 0} {f : Found} → ((c : Pair) → P c ↔ Q c) → Finds w P f → Finds w Q f
@@ -238,49 +245,48 @@ module _ (w : List ℕ) (n : ℕ) where
   unfolding firstClash
   firstClash-finds = least-finds w (clashes w n)
 
-  pub firstClash-at : (t k : ℕ) → (firstClash w n ≡ at t k) ↔ IsFirst w n t k
+  pub firstClash-at : (t k : ℕ) → (firstClash w n ≡ At t k) ↔ IsFirst w n t k
   firstClash-at t k = (λ e. first-found (rw e at firstClash-finds), λ h. finds-once firstClash-finds (finds-at h))
 
-  pub firstClash-none : (firstClash w n ≡ none) ↔ (clashes w n ≡ [])
+  pub firstClash-none : (firstClash w n ≡ Nothing) ↔ (clashes w n ≡ [])
   unfolding firstClash least
   firstClash-none = (λ e. empty-of-no-member (clashes w n) (nothing-found (rw e at firstClash-finds)), λ e. rw e)
 
 -- ---- what a commit answers
 
-module _ (s : State) (n : ℕ) where
-  -- "No clash: it commits."
+module _ (s : Ledger) (n : ℕ) where
+  -- RULES 4.5
   pub no-clash-commits : clashes (s .table) n ≡ [] → commit s n .answer ≡ Committed (commitTime (s .table) n)
   unfolding commit judged
   no-clash-commits e = rw (firstClash-none (s .table) n .1 e)
 
-  -- "With a clash .. Answer: failed, the end time and account of the clash with the smallest end time and, within that,
-  -- the smallest account."
-  first-clash-fails : (t k : ℕ) → firstClash (s .table) n ≡ at t k → commit s n .answer ≡ Failed t k
+  -- RULES 4.6, with the numbers of 4.3
+  first-clash-fails : (t k : ℕ) → firstClash (s .table) n ≡ At t k → commit s n .answer ≡ Failed t k
   unfolding commit judged
   first-clash-fails t k e = rw e
 
   pub clash-fails :
       clashes (s .table) n ≢ [] →
-      (t : ℕ) × (k : ℕ) × (firstClash (s .table) n ≡ at t k) × (commit s n .answer ≡ Failed t k)
+      (t : ℕ) × (k : ℕ) × (firstClash (s .table) n ≡ At t k) × (commit s n .answer ≡ Failed t k)
   clash-fails some = go (firstClash (s .table) n) refl
     where
       go :
           (f : Found) → firstClash (s .table) n ≡ f →
-          (t : ℕ) × (k : ℕ) × (firstClash (s .table) n ≡ at t k) × (commit s n .answer ≡ Failed t k)
-      go none e = absurd (some (firstClash-none (s .table) n .0 e))
-      go (at t k) e = (t, k, e, first-clash-fails t k e)
+          (t : ℕ) × (k : ℕ) × (firstClash (s .table) n ≡ At t k) × (commit s n .answer ≡ Failed t k)
+      go Nothing e = absurd (some (firstClash-none (s .table) n .0 e))
+      go (At t k) e = (t, k, e, first-clash-fails t k e)
 
   pub committed-no-clash : (t : ℕ) → commit s n .answer ≡ Committed t → clashes (s .table) n ≡ []
   committed-no-clash t said = go (firstClash (s .table) n) refl
     where
       go : (f : Found) → firstClash (s .table) n ≡ f → clashes (s .table) n ≡ []
-      go none e = firstClash-none (s .table) n .0 e
+      go Nothing e = firstClash-none (s .table) n .0 e
       -- the answer would be both Failed and Committed
-      go (at u k) e = let failed = first-clash-fails u k e in cc
+      go (At u k) e = let failed = first-clash-fails u k e in cc
 
 -- a commit that isn't refused answers committed exactly when the clash list is empty
 pub committed-exactly :
-    (s : State) (e : Event) → causeIn s e ≡ 0 → isCommit e ≡ true →
+    (s : Ledger) (e : Event) → causeIn s e ≡ 0 → isCommit e ≡ true →
     ((t : ℕ) × (step s e .answer ≡ Committed t)) ↔ (clashes (s .table) (e .number) ≡ [])
 committed-exactly s e allowed is =
     let same = step-commits s e allowed is in (

@@ -1,6 +1,6 @@
 -- The search of specs/Search.antt, record by record and account by account, finds the clash that a commit answers.
 -- Assumes nothing.
-use Prim.Native.Nat.{ℕ, zero, suc, _+_, _≤_, _<_}
+use Prim.Native.Nat.{ℕ, zero, suc, _+_, _-_, _≤_, _<_}
 use native.Mathlib.Omega.{arith}
 use native.Mathlib.Decide.{ℕ-discrete}
 use mathlib.Core.Path.{_≡_, refl, sym, ap, _∙_}
@@ -13,7 +13,9 @@ use Rattle.rules.specs.Range.{upFrom}
 use Rattle.rules.specs.Card.{accountCount, accounts}
 use Rattle.rules.specs.Table.{hasEnd, mostActions, started, counter, parentOf, endTime, hasRead, readTime, hasWritten, isCommitted, actions, isChildOf, isRecordOf, records}
 use Rattle.rules.specs.Sound.{IsStarted, Sound}
-use Rattle.rules.specs.Clash.{isClash, Pair, Found, none, firstClash}
+use Rattle.rules.specs.declared.Found.{Found}
+use Rattle.rules.specs.declared.Found.the-variants.{Nothing}
+use Rattle.rules.specs.Clash.{isClash, Pair, firstClash}
 use Rattle.rules.specs.Search.{nextAfter, searchAccounts, searchRecords, search}
 use Rattle.rules.proofs.Laws.Tests.{and-left, and-right, test, not-both}
 use Rattle.rules.proofs.Laws.Ranges.{Within, count-at-most}
@@ -246,13 +248,13 @@ module _ (w : List ℕ) (n : ℕ) (s : Sound w) where
   round :
       (left t m : ℕ) → m ≡ nextAfter w t (records w (parentOf w n)) →
       searchRecords w n (suc left) t
-      ≡ cond (eqb m 0) none (searchAccounts w n m (searchRecords w n left (endTime w m)) accounts)
+      ≡ cond (eqb m 0) Nothing (searchAccounts w n m (searchRecords w n left (endTime w m)) accounts)
   unfolding searchRecords
   round left t m e = rw e
 
   -- there is no next record
-  pub search-none : (t m : ℕ) → m ≡ nextAfter w t (records w (parentOf w n)) → m ≡ 0 → searchAfter w n t ≡ none
-  search-none t m e z = rw (round 63 t m e, z)
+  pub search-none : (t m : ℕ) → m ≡ nextAfter w t (records w (parentOf w n)) → m ≡ 0 → searchAfter w n t ≡ Nothing
+  search-none t m e z = rw (round (mostActions - 1) t m e, z)
 
   -- there is one: its accounts come first, then the records after it
   pub search-next :
@@ -262,9 +264,9 @@ module _ (w : List ℕ) (n : ℕ) (s : Sound w) where
       let next = next-started (parentOf w n) t m e ne in
       let few = counter-at-most w s in
       rw (
-        round 63 t m e,
+        round (mostActions - 1) t m e,
         ne-eqb m 0 ne,
-        finds-once (searchRecords-finds 63 (endTime w m) (omega arith)) (searchRecords-finds mostActions (endTime w m) (omega arith)),
+        finds-once (searchRecords-finds (mostActions - 1) (endTime w m) (omega arith)) (searchRecords-finds mostActions (endTime w m) (omega arith)),
       )
 
 -- What ended by the action's first read can't clash with it, so the search may begin at that time.
@@ -287,7 +289,7 @@ search-after-finds w n s t first =
           (h, omega (arith, read, read-before (c .holder) (c .account) (h .clash))),
     )
 
--- "In the search both the records and the accounts are left at the first clash, records taken by rising end time."
+-- RULES 4.4: the search from time 0 on
 pub search-finds : (w : List ℕ) (n : ℕ) → Sound w → search w n ≡ firstClash w n
 unfolding search
 search-finds w n s = search-after-finds w n s 0 (λ k h read. omega arith)

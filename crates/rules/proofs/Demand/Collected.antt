@@ -1,5 +1,4 @@
--- The collector beside the engine: event by event, what demand 3's proof keeps of both. Request 5 changes who commits at
--- an event, request 8 who holds a number. Assumes nothing.
+-- The collector beside the engine: event by event, what demand 3's proof keeps of both. Assumes nothing.
 use Prim.Native.Nat.{ℕ, _+_, _≤_, _<_}
 use native.Mathlib.Omega.{arith}
 use native.Mathlib.Decide.{ℕ-discrete}
@@ -10,10 +9,12 @@ use mathlib.Core.Option.{some}
 use mathlib.Core.List.{List}
 use lib.ListN.{length}
 use Rattle.rules.specs.Card.{accountCount, cardLength}
-use Rattle.rules.specs.Table.{mostActions, started, parentOf, hasLiveChild, isLive}
+use Rattle.rules.specs.Table.{mostActions, started, parentField, parentOf, hasLiveChild, isLive}
 use Rattle.rules.specs.Sound.{IsStarted}
-use Rattle.rules.specs.Clash.{none, at, firstClash}
-use Rattle.rules.specs.Step.{State, startTable, start, read, write, committedUnder}
+use Rattle.rules.specs.declared.Found.the-variants.{Nothing}
+use Rattle.rules.specs.Clash.{firstClash}
+use Rattle.rules.specs.Ledger.{Ledger}
+use Rattle.rules.specs.Step.{startTable, start, read, write, committedUnder}
 use Rattle.rules.specs.Serial.Effect.{Effect}
 use Rattle.rules.specs.Serial.Block.{Block, empty, child}
 use Rattle.rules.specs.Serial.Collect.{put, Known, begun, laid}
@@ -23,29 +24,29 @@ use Rattle.rules.proofs.Serial.Rule.{Rule, Holds, rule-start, rule-read
 use Rattle.rules.proofs.Serial.Stale.{Old, stale-rule}
 use Rattle.rules.proofs.Serial.Settling.{whole-card}
 use Rattle.rules.proofs.Serial.Running.{Whole, OnlyChildren}
-use Rattle.rules.proofs.Demand.See.{see, Stale}
+use Rattle.rules.proofs.Demand.Abstraction.{abstraction, Stale}
 use Rattle.rules.proofs.Serial.Events.{Drop}
-use Rattle.rules.proofs.Sound.Changes.{Change}
+use Rattle.rules.proofs.Sound.TableChanges.{TableChange}
 use Rattle.rules.proofs.Sound.Starting.{start-started, start-parent, start-keeps-row}
-use Rattle.rules.proofs.Demand.Seeing.{Proper}
+use Rattle.rules.proofs.Demand.AbstractionLaws.{Proper}
 use Rattle.rules.proofs.Sound.Reading.{read-change}
 use Rattle.rules.proofs.Sound.Writing.{write-change}
-use Rattle.rules.proofs.Sound.Judging.{Judged, commit-change}
+use Rattle.rules.proofs.Sound.Judging.{Committable, commit-change}
 use Rattle.rules.proofs.Demand.Starts.{start-starts, start-old}
 use Rattle.rules.proofs.Demand.Reads.{lookedIn, read-reads, read-shows, read-old}
-use Rattle.rules.proofs.Demand.Writes.{see-write, stale-after-write}
+use Rattle.rules.proofs.Demand.Writes.{abstract-write, stale-after-write}
 use Rattle.rules.proofs.Demand.Passes.{no-clash-passes}
 use Rattle.rules.proofs.Demand.CommitTable.{still-alive-other}
-use Rattle.rules.proofs.Demand.CommitChange.{see-commit}
+use Rattle.rules.proofs.Demand.CommitChange.{abstract-commit}
 use Rattle.rules.proofs.Demand.CommitStale.{stale-at-commit}
 
 -- ---- what is kept
 
-abbrev rule : Rule see
-rule = stale-rule see Stale
+abbrev rule : Rule abstraction
+rule = stale-rule abstraction Stale
 
 -- got: the card that the read at each place was given; opening: the cards of the opening base store
-pub record Kept (got opening : ℕ → List ℕ) (s : State) (c : Known) : Type 0 where
+pub record Kept (got opening : ℕ → List ℕ) (s : Ledger) (c : Known) : Type 0 where
   pub proper : Proper s
   pub holds : Holds rule got opening s (c .block)
   pub parents : (n : ℕ) → IsStarted (s .table) n → c .parent n ≡ parentOf (s .table) n
@@ -54,7 +55,7 @@ pub record Kept (got opening : ℕ → List ℕ) (s : State) (c : Known) : Type 
 
 -- the parents that the collector knows are the table's, as long as the table keeps them
 same-parents :
-    {w v : List ℕ} {now : ℕ} (parent : ℕ → ℕ) → Change w v now → ((n : ℕ) → IsStarted w n → parent n ≡ parentOf w n) →
+    {w v : List ℕ} {now : ℕ} (parent : ℕ → ℕ) → TableChange w v now → ((n : ℕ) → IsStarted w n → parent n ≡ parentOf w n) →
     (n : ℕ) → IsStarted v n → parent n ≡ parentOf v n
 same-parents parent change agree n h =
     let was : IsStarted _ n = (h .0, rw (change .sameStarted) at (h .1)) in
@@ -67,11 +68,11 @@ grown c n d = record { parent = c .parent; block = put (c .block) n d }
 -- ---- event by event
 
 -- got and opening as above, at place i, from a state and what is collected before it to the state after
-module _ (got opening : ℕ → List ℕ) {s : State} {c : Known} (kept : Kept got opening s c) (i : ℕ) where
+module _ (got opening : ℕ → List ℕ) {s : Ledger} {c : Known} (kept : Kept got opening s c) (i : ℕ) where
   -- an abort or a failed commit: no block changes
   pub drop-kept :
-      {s′ : State} {now : ℕ} → Proper s′ → Change (s .table) (s′ .table) now → Drop (see s) (see s′) →
-      Old (see s) (see s′) (Stale s) (Stale s′) → Kept got opening s′ c
+      {s′ : Ledger} {now : ℕ} → Proper s′ → TableChange (s .table) (s′ .table) now → Drop (abstraction s) (abstraction s′) →
+      Old (abstraction s) (abstraction s′) (Stale s) (Stale s′) → Kept got opening s′ c
   drop-kept {s′} proper′ change drop old =
       record {
         proper = proper′;
@@ -86,7 +87,7 @@ module _ (got opening : ℕ → List ℕ) {s : State} {c : Known} (kept : Kept g
     abbrev new : ℕ
     new = started (s .table) + 1
 
-    new-put : Put (see (start s p .after)) (c .block) (put (c .block) new empty) new empty
+    new-put : Put (abstraction (start s p .after)) (c .block) (put (c .block) new empty) new empty
     new-put =
         record {
           new = put-there (c .block) new empty;
@@ -100,7 +101,7 @@ module _ (got opening : ℕ → List ℕ) {s : State} {c : Known} (kept : Kept g
         (λ _. sym (start-parent (s .table) p (kept .proper .sound .long) room))
         (λ n ne h.
         let was : IsStarted (s .table) n = omega (arith, start-started (s .table) p (kept .proper .sound .long) room) in
-        kept .parents n was ∙ sym (start-keeps-row (s .table) p n 0 (omega arith) (h .0) ne))
+        kept .parents n was ∙ sym (start-keeps-row (s .table) p n parentField (omega arith) (h .0) ne))
 
     pub start-kept : Proper (start s p .after) → Kept got opening (start s p .after) (begun c new p)
     unfolding start Whole
@@ -117,7 +118,7 @@ module _ (got opening : ℕ → List ℕ) {s : State} {c : Known} (kept : Kept g
 
   -- a step of the action n itself: its block grows by one, the store's stays
   module _ (n : ℕ) (own : IsStarted (s .table) n) (d : Block Effect) where
-    own-put : (s′ : State) → Put (see s′) (c .block) (put (c .block) n d) n d
+    own-put : (s′ : Ledger) → Put (abstraction s′) (c .block) (put (c .block) n d) n d
     own-put s′ =
         record {
           new = put-there (c .block) n d;
@@ -161,7 +162,7 @@ module _ (got opening : ℕ → List ℕ) {s : State} {c : Known} (kept : Kept g
             proper = proper′;
             holds =
                 rule-write rule got opening s (write s n k card .after) (kept .holds) n k i (some card)
-                (see-write (kept .proper) card own alive account size childless)
+                (abstract-write (kept .proper) card own alive account size childless)
                 (stale-after-write (kept .proper) card own alive account size)
                 (own-put n own (Block.write (c .block n) i k (some card)) (write s n k card .after));
             parents = same-parents (c .parent) (write-change (s .table) (kept .proper .sound) n k own alive account) (kept .parents);
@@ -170,11 +171,11 @@ module _ (got opening : ℕ → List ℕ) {s : State} {c : Known} (kept : Kept g
           }
 
   -- a commit: the block of n is taken out and laid into its parent's
-  module _ (n : ℕ) (j : Judged (s .table) n) where
+  module _ (n : ℕ) (j : Committable (s .table) n) where
     abbrev p : ℕ
     p = parentOf (s .table) n
 
-    abbrev s′ : State
+    abbrev s′ : Ledger
     s′ = committedUnder s n p
 
     rest : ℕ → Block Effect
@@ -198,7 +199,7 @@ module _ (got opening : ℕ → List ℕ) {s : State} {c : Known} (kept : Kept g
     store-other : 0 ≢ n
     store-other e = omega (arith, j .own)
 
-    laid-put : Put (see s′) (c .block) (laid i c n .block) p (child (c .block p) i n (c .block n))
+    laid-put : Put (abstraction s′) (c .block) (laid i c n .block) p (child (c .block p) i n (c .block n))
     unfolding committedUnder
     laid-put =
         rw laid-blocks
@@ -230,14 +231,14 @@ module _ (got opening : ℕ → List ℕ) {s : State} {c : Known} (kept : Kept g
         cases (yes e) = rw (← e) (rw (put-there rest 0 (child (rest 0) i n (c .block n))) rest-top)
         cases (no ne) = rw (put-elsewhere rest p (child (rest p) i n (c .block n)) 0 ne) rest-top
 
-    pub pass-kept : Proper s′ → firstClash (s .table) n ≡ none → Kept got opening s′ (laid i c n)
+    pub pass-kept : Proper s′ → firstClash (s .table) n ≡ Nothing → Kept got opening s′ (laid i c n)
     unfolding committedUnder
     pass-kept proper′ clear =
         record {
           proper = proper′;
           holds =
               rule-commit rule got opening s s′ (kept .holds) n p i
-              (see-commit (kept .proper) j refl) (stale-at-commit (kept .proper) j refl) (no-clash-passes s n clear) laid-put;
+              (abstract-commit (kept .proper) j refl) (stale-at-commit (kept .proper) j refl) (no-clash-passes s n clear) laid-put;
           parents = same-parents (c .parent) (commit-change (s .table) (kept .proper .sound) n j) (kept .parents);
           whole = laid-whole;
           top = laid-top;

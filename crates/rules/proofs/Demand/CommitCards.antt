@@ -1,5 +1,5 @@
 -- The stores after a commit, card by card, and so the effects: those of the one that commits are laid on its parent's, on the
--- base cards where it is a topaction. Request 2 adds sums on charge accounts. Assumes nothing.
+-- base cards where it is a topaction. Assumes nothing.
 use Prim.Native.Nat.{ℕ, _≤_, _<_}
 use native.Mathlib.Omega.{arith}
 use mathlib.Core.Path.{_≡_, refl, sym, ap, _∙_}
@@ -11,16 +11,17 @@ use lib.Dec.{eqb}
 use lib.ListN.{length}
 use borrow.Author.Tests.{eqb-false, eq-eqb, ne-eqb}
 use Rattle.rules.specs.Card.{accountCount, basePlace, shadowPlace, cardAt}
-use Rattle.rules.specs.Table.{parentOf, writeField, writeEntry, hasWritten}
+use Rattle.rules.specs.Table.{parentOf, writeField, writeEntry, entered, hasWritten}
 use Rattle.rules.specs.Sound.{IsStarted}
-use Rattle.rules.specs.Step.{State, commitTable, committedUnder}
+use Rattle.rules.specs.Ledger.{Ledger}
+use Rattle.rules.specs.Step.{commitTable, committedUnder}
 use Rattle.rules.specs.Serial.Effect.{over, lay}
 use Rattle.rules.proofs.Laws.Tests.{test, cond-holds}
 use Rattle.rules.proofs.Sound.Committing.{commit-keeps-row, commit-write}
-use Rattle.rules.proofs.Sound.Judging.{Judged}
+use Rattle.rules.proofs.Sound.Judging.{Committable}
 use Rattle.rules.proofs.Stores.Copies.{Line, base-line, shadow-line, copyCards-length, copyCards-card, copyCards-apart, shadow-apart}
-use Rattle.rules.proofs.Demand.See.{cardOf, effectOf}
-use Rattle.rules.proofs.Demand.Seeing.{Proper, effect-written, effect-unwritten, effect-no-account, by-account}
+use Rattle.rules.proofs.Demand.Abstraction.{cardOf, effectOf}
+use Rattle.rules.proofs.Demand.AbstractionLaws.{Proper, effect-written, effect-unwritten, effect-no-account, by-account}
 use Rattle.rules.proofs.Laws.Bytes.{cardAt-beyond}
 use Rattle.rules.proofs.Demand.Views.{effect-kept, shadow-fits}
 use Rattle.rules.proofs.Demand.CommitTable.{number-few, parent-below}
@@ -32,7 +33,7 @@ pub by-write-set :
 by-write-set w n k written unwritten =
     by-account k (λ account. ⊎-elim (written account) (unwritten account) (test (hasWritten w n k)))
 
-module _ {s : State} (proper : Proper s) {n p : ℕ} (judged : Judged (s .table) n) (under : parentOf (s .table) n ≡ p) where
+module _ {s : Ledger} (proper : Proper s) {n p : ℕ} (judged : Committable (s .table) n) (under : parentOf (s .table) n ≡ p) where
   own-line : Line (shadowPlace n) (s .shadow)
   own-line = shadow-line (s .shadow) n (proper .shadowFits) (number-few proper judged under)
 
@@ -125,7 +126,7 @@ module _ {s : State} (proper : Proper s) {n p : ℕ} (judged : Judged (s .table)
 
   parent-entry :
       p ≢ 0 → (k : ℕ) → k < accountCount →
-      writeEntry (commitTable (s .table) n p) p k ≡ cond (hasWritten (s .table) n k) 1 (writeEntry (s .table) p k)
+      writeEntry (commitTable (s .table) n p) p k ≡ cond (hasWritten (s .table) n k) entered (writeEntry (s .table) p k)
   parent-entry sub =
       let few = number-few proper judged under in
       commit-write (s .table) n p (judged .own .0) (proper .sound .long) few

@@ -1,23 +1,24 @@
 -- A commit as demand 3's proof sees it: the effects of the one that commits are laid on its parent, which has its reads then.
--- Request 3 leaves reads out of the parent's set that the parent's own card hides. Assumes nothing.
+-- Assumes nothing.
 use Prim.Native.Nat.{ℕ}
 use native.Mathlib.Omega.{arith}
 use mathlib.Core.Path.{_≡_, _∙_}
 use mathlib.Core.Logic.{inl}
 use mathlib.Core.List.{List}
 use Rattle.rules.specs.Table.{parentOf}
-use Rattle.rules.specs.Step.{State, commitTable, committedUnder}
-use Rattle.rules.proofs.Sound.Changes.{change-keeps-sound}
-use Rattle.rules.proofs.Sound.Judging.{Judged}
+use Rattle.rules.specs.Ledger.{Ledger}
+use Rattle.rules.specs.Step.{commitTable, committedUnder}
+use Rattle.rules.proofs.Sound.TableChanges.{change-keeps-sound}
+use Rattle.rules.proofs.Sound.Judging.{Committable}
 use Rattle.rules.proofs.Serial.Change.{Change}
 use Rattle.rules.proofs.Serial.Events.{Commit}
-use Rattle.rules.proofs.Demand.See.{effectOf, see}
-use Rattle.rules.proofs.Demand.Seeing.{Proper, alive-started, live-alive, read-account, account-read, see-tree}
+use Rattle.rules.proofs.Demand.Abstraction.{effectOf, abstraction}
+use Rattle.rules.proofs.Demand.AbstractionLaws.{Proper, alive-started, live-alive, read-account, account-read, abstract-tree}
 use Rattle.rules.proofs.Demand.Views.{was-alive, same-parent}
 use Rattle.rules.proofs.Demand.CommitTable.{entry-has-read, table-change, still-alive-other, read-joined, read-kept}
 use Rattle.rules.proofs.Demand.CommitCards.{commit-base-length, commit-shadow-length, commit-base-kept, commit-base-laid, commit-effect-kept, commit-effect-laid}
 
-module _ {s : State} (proper : Proper s) {n p : ℕ} (judged : Judged (s .table) n) (under : parentOf (s .table) n ≡ p) where
+module _ {s : Ledger} (proper : Proper s) {n p : ℕ} (judged : Committable (s .table) n) (under : parentOf (s .table) n ≡ p) where
   -- the table after the commit
   abbrev table′ : List ℕ
   table′ = commitTable (s .table) n p
@@ -31,12 +32,12 @@ module _ {s : State} (proper : Proper s) {n p : ℕ} (judged : Judged (s .table)
         shadowFits = commit-shadow-length proper judged under ∙ proper .shadowFits;
       }
 
-  see-change : Change (see s) (see (committedUnder s n p)) p (effectOf s n)
+  abstract-change : Change (abstraction s) (abstraction (committedUnder s n p)) p (effectOf s n)
   unfolding committedUnder
-  see-change =
+  abstract-change =
       record {
-        tree = see-tree s proper;
-        tree′ = see-tree (committedUnder s n p) committed-proper;
+        tree = abstract-tree s proper;
+        tree′ = abstract-tree (committedUnder s n p) committed-proper;
         parent-kept = λ X x. same-parent (table-change proper judged under) X (x .before);
         reads-kept = λ X k x has.
             account-read table′ X k (read-account (s .table) X k has)
@@ -51,11 +52,11 @@ module _ {s : State} (proper : Proper s) {n p : ℕ} (judged : Judged (s .table)
         base-laid = commit-base-laid proper judged under;
       }
 
-  pub see-commit : Commit (see s) (see (committedUnder s n p)) n p
+  pub abstract-commit : Commit (abstraction s) (abstraction (committedUnder s n p)) n p
   unfolding committedUnder
-  see-commit =
+  abstract-commit =
       record {
-        change = see-change;
+        change = abstract-change;
         nobody-new = was-alive (table-change proper judged under);
         committer-live = live-alive (s .table) n (judged .own) (judged .alive);
         committer-under = under;

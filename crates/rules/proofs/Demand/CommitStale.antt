@@ -1,5 +1,5 @@
 -- What a commit does to stale reads: those there were stay, those of the one that commits pass to its parent, and what it
--- changes makes every earlier read of it stale. Requests 7, 8 and 9 change what makes a read stale. Assumes nothing.
+-- changes makes every earlier read of it stale. Assumes nothing.
 use Prim.Native.Nat.{ℕ, _+_, _≤_, _<_}
 use native.Mathlib.Omega.{arith}
 use native.Mathlib.Nat.{le-of-eq}
@@ -10,27 +10,28 @@ use mathlib.Core.Option.{none}
 use mathlib.Core.List.{List}
 use borrow.Author.Tests.{eq-eqb}
 use Rattle.rules.specs.Card.{accountCount, accounts}
-use Rattle.rules.specs.Table.{width, word, counter, parentOf, endTime, readEntry, writeField, hasWritten, hasWrites, isCommitted, isRecordOf}
+use Rattle.rules.specs.Table.{width, word, counter, parentOf, endTime, readFields, readEntry, writeField, hasWritten, hasWrites, isCommitted, isRecordOf}
 use Rattle.rules.specs.Sound.{IsStarted}
-use Rattle.rules.specs.Step.{State, commitTime, commitTable, committedUnder}
+use Rattle.rules.specs.Ledger.{Ledger}
+use Rattle.rules.specs.Step.{commitTime, commitTable, committedUnder}
 use Rattle.rules.proofs.Laws.Tests.{and-both}
 use Rattle.rules.proofs.Laws.Ranges.{any-at}
 use Rattle.rules.proofs.Laws.Sets.{account-within}
-use Rattle.rules.proofs.Sound.Changes.{writes-agree, live-uncommitted}
+use Rattle.rules.proofs.Sound.TableChanges.{writes-agree, live-uncommitted}
 use Rattle.rules.proofs.Sound.Committing.{commit-parent, commit-keeps-row, commit-keeps-sets, commit-end}
-use Rattle.rules.proofs.Sound.Judging.{Judged}
-use Rattle.rules.proofs.Serial.State.{HasRead}
+use Rattle.rules.proofs.Sound.Judging.{Committable}
+use Rattle.rules.proofs.Serial.AbstractState.{HasRead}
 use Rattle.rules.proofs.Serial.Change.{Stays}
 use Rattle.rules.proofs.Serial.Stale.{AtCommit}
-use Rattle.rules.proofs.Demand.See.{effectOf, see, Stale}
-use Rattle.rules.proofs.Demand.Seeing.{Proper, alive-started, alive-live, read-account, read-entered, effect-unwritten, effect-no-account}
+use Rattle.rules.proofs.Demand.Abstraction.{effectOf, abstraction, Stale}
+use Rattle.rules.proofs.Demand.AbstractionLaws.{Proper, alive-started, alive-live, read-account, read-entered, effect-unwritten, effect-no-account}
 use Rattle.rules.proofs.Demand.Views.{RowKept, stale-stays}
 use Rattle.rules.proofs.Demand.CommitTable.{NoLater, table-change, number-few, parent-below, now-committed, read-joined, read-kept}
 use Rattle.rules.proofs.Demand.CommitCards.{by-write-set}
 
-module _ {s : State} (proper : Proper s) {n p : ℕ} (judged : Judged (s .table) n) (under : parentOf (s .table) n ≡ p) where
+module _ {s : Ledger} (proper : Proper s) {n p : ℕ} (judged : Committable (s .table) n) (under : parentOf (s .table) n ≡ p) where
   -- the state and the table after the commit
-  abbrev after : State
+  abbrev after : Ledger
   after = committedUnder s n p
 
   abbrev table′ : List ℕ
@@ -67,7 +68,7 @@ module _ {s : State} (proper : Proper s) {n p : ℕ} (judged : Judged (s .table)
     unfolding hasWrites accounts
     has-writes = any-at (hasWritten (s .table) n) 0 accountCount k (account-within account) written
 
-    own-set-kept : (g : ℕ) → 3 ≤ g → g < width → word table′ n g ≡ word (s .table) n g
+    own-set-kept : (g : ℕ) → readFields ≤ g → g < width → word table′ n g ≡ word (s .table) n g
     own-set-kept =
         let below = parent-below proper judged under in
         commit-keeps-sets (s .table) n p (judged .own .0) (λ e. omega arith)
@@ -83,7 +84,7 @@ module _ {s : State} (proper : Proper s) {n p : ℕ} (judged : Judged (s .table)
     unfolding commitTime
     now-ended = commit-end (s .table) n p (judged .own .0) (proper .sound .long) (number-few proper judged under) ∙ rw has-writes
 
-    now-stale : (X : ℕ) → Stays (see s) (see after) X → HasRead (see s) X k → Stale after X p k
+    now-stale : (X : ℕ) → Stays (abstraction s) (abstraction after) X → HasRead (abstraction s) X k → Stale after X p k
     unfolding committedUnder
     now-stale X x has =
         let begun = alive-started (s .table) X (x .before) in
@@ -97,7 +98,7 @@ module _ {s : State} (proper : Proper s) {n p : ℕ} (judged : Judged (s .table)
         }
 
   no-effect-or-stale :
-      (k : ℕ) → (effectOf s n k ≡ none) ⊎ ((X : ℕ) → Stays (see s) (see after) X → HasRead (see s) X k → Stale after X p k)
+      (k : ℕ) → (effectOf s n k ≡ none) ⊎ ((X : ℕ) → Stays (abstraction s) (abstraction after) X → HasRead (abstraction s) X k → Stale after X p k)
   no-effect-or-stale k =
       by-write-set (s .table) n k
       (λ account written. inr (now-stale k account written))
@@ -106,7 +107,7 @@ module _ {s : State} (proper : Proper s) {n p : ℕ} (judged : Judged (s .table)
 
   -- ---- what the proof asks of a commit's stale reads
 
-  pub stale-at-commit : AtCommit (see s) (see (committedUnder s n p)) (Stale s) (Stale (committedUnder s n p)) n p
+  pub stale-at-commit : AtCommit (abstraction s) (abstraction (committedUnder s n p)) (Stale s) (Stale (committedUnder s n p)) n p
   unfolding committedUnder
   stale-at-commit =
       record {

@@ -1,5 +1,4 @@
--- The table after a commit, as demand 3's proof sees it: who is still live, and what they have read. Request 3 passes fewer
--- reads to a parent; request 7 keeps two times for each read. Assumes nothing.
+-- The table after a commit, as demand 3's proof sees it: who is still live, and what they have read. Assumes nothing.
 use Prim.Native.Nat.{ℕ, _≤_, _<_}
 use native.Mathlib.Omega.{arith}
 use native.Mathlib.Decide.{ℕ-discrete}
@@ -12,13 +11,14 @@ use lib.Dec.{eqb}
 use borrow.Author.Tests.{eqb-true, eqb-false, eq-eqb, not-true}
 use Rattle.rules.specs.Card.{accountCount}
 use Rattle.rules.specs.Table.{mostActions, parentOf, readField, readEntry, hasRead, isCommitted}
-use Rattle.rules.specs.Step.{State, joinedRead, commitTable}
+use Rattle.rules.specs.Ledger.{Ledger}
+use Rattle.rules.specs.Step.{joinedRead, commitTable}
 use Rattle.rules.proofs.Laws.Tests.{not-holds, nonzero, cond-holds}
-use Rattle.rules.proofs.Sound.Changes.{Change, live-uncommitted}
+use Rattle.rules.proofs.Sound.TableChanges.{TableChange, live-uncommitted}
 use Rattle.rules.proofs.Sound.Committing.{commit-keeps-row, commit-state, commit-read}
-use Rattle.rules.proofs.Sound.Judging.{Judged, commit-change}
-use Rattle.rules.proofs.Demand.See.{isAlive, hasReadAccount}
-use Rattle.rules.proofs.Demand.Seeing.{Proper, alive-started, alive-live, read-account, read-entered}
+use Rattle.rules.proofs.Sound.Judging.{Committable, commit-change}
+use Rattle.rules.proofs.Demand.Abstraction.{isAlive, hasReadAccount}
+use Rattle.rules.proofs.Demand.AbstractionLaws.{Proper, alive-started, alive-live, read-account, read-entered}
 
 -- ---- read entries
 
@@ -33,7 +33,7 @@ entry-has-read w X k one = not-holds _ .1 (nonzero (readEntry w X k) .1 one)
 abbrev pub NoLater : ℕ → ℕ → Type 0
 NoLater e′ e = (1 ≤ e′) × (e′ ≤ e)
 
--- "where both have read an account, the smaller time stays": whoever has read it, the joined read is no later
+-- whoever of the two has read an account, the joined read is no later
 module _ (child parent : ℕ) where
   joined-child : 1 ≤ child → NoLater (joinedRead child parent) child
   joined-child one =
@@ -51,8 +51,8 @@ module _ (child parent : ℕ) where
 
 -- ---- action n commits under p
 
-module _ {s : State} (proper : Proper s) {n p : ℕ} (judged : Judged (s .table) n) (under : parentOf (s .table) n ≡ p) where
-  pub table-change : Change (s .table) (commitTable (s .table) n p) n
+module _ {s : Ledger} (proper : Proper s) {n p : ℕ} (judged : Committable (s .table) n) (under : parentOf (s .table) n ≡ p) where
+  pub table-change : TableChange (s .table) (commitTable (s .table) n p) n
   table-change = rw under at (commit-change (s .table) (proper .sound) n judged)
 
   pub number-few : n ≤ mostActions

@@ -1,5 +1,5 @@
--- The events after which fewer actions are live and nothing else has changed, as demand 3's proof sees them: an abort and a failed
--- commit. Request 5 adds a failed verdict, and commits at an abort. Assumes nothing.
+-- The events after which fewer actions are live and nothing else has changed, as demand 3's proof sees them: an abort and a
+-- failed commit. Assumes nothing.
 use Prim.Native.Nat.{ℕ, _<_}
 use native.Mathlib.Nat.{le-of-eq}
 use native.Mathlib.Omega.{arith}
@@ -8,22 +8,23 @@ use mathlib.Core.Logic.{_≢_}
 use mathlib.Core.Bool.{true}
 use mathlib.Core.List.{List}
 use Rattle.rules.specs.Table.{width, aborted, word, stateField, withState, readField, writeField, isLive, isCommitted}
-use Rattle.rules.specs.Step.{State, withTable, abortTable, abort}
+use Rattle.rules.specs.Ledger.{Ledger, withTable}
+use Rattle.rules.specs.Step.{abortTable, abort}
 use Rattle.rules.proofs.Laws.Tests.{and-left}
 use Rattle.rules.proofs.Laws.Words.{word-other-row, word-off-field}
-use Rattle.rules.proofs.Sound.Changes.{Change, live-uncommitted}
-use Rattle.rules.proofs.Sound.Judging.{Judged, fail-change}
+use Rattle.rules.proofs.Sound.TableChanges.{TableChange, live-uncommitted}
+use Rattle.rules.proofs.Sound.Judging.{Committable, fail-change}
 use Rattle.rules.proofs.Sound.Aborting.{abort-keeps-field, abort-keeps-row, abort-change}
 use Rattle.rules.proofs.Serial.Events.{Drop}
 use Rattle.rules.proofs.Serial.Stale.{Old}
-use Rattle.rules.proofs.Demand.See.{see, Stale}
-use Rattle.rules.proofs.Demand.Seeing.{Proper}
+use Rattle.rules.proofs.Demand.Abstraction.{abstraction, Stale}
+use Rattle.rules.proofs.Demand.AbstractionLaws.{Proper}
 use Rattle.rules.proofs.Demand.Views.{RowKept, Keeps, keeps-still, keeps-old, was-alive, change-keeps-proper}
 
 -- ---- a change of states alone, and of no committed action's
 
 states-keep :
-    {w v : List ℕ} {now : ℕ} → Change w v now → ((m g : ℕ) → g < width → g ≢ stateField → word v m g ≡ word w m g) →
+    {w v : List ℕ} {now : ℕ} → TableChange w v now → ((m g : ℕ) → g < width → g ≢ stateField → word v m g ≡ word w m g) →
     ((m : ℕ) → isCommitted w m ≡ true → RowKept w v m) → Keeps w v
 states-keep c field-kept rows =
     record {
@@ -35,15 +36,15 @@ states-keep c field-kept rows =
     }
 
 change-drops :
-    {s : State} {v : List ℕ} {now : ℕ} → Proper s → Change (s .table) v now → Keeps (s .table) v →
-    Drop (see s) (see (withTable s v))
+    {s : Ledger} {v : List ℕ} {now : ℕ} → Proper s → TableChange (s .table) v now → Keeps (s .table) v →
+    Drop (abstraction s) (abstraction (withTable s v))
 change-drops {s} {v} proper c kept =
     record { still = keeps-still s v kept proper (change-keeps-proper proper c); nobody-new = was-alive c }
 
 -- ---- an abort
 
-module _ (s : State) (proper : Proper s) (n : ℕ) where
-  change : Change (s .table) (abortTable (s .table) n) n
+module _ (s : Ledger) (proper : Proper s) (n : ℕ) where
+  change : TableChange (s .table) (abortTable (s .table) n) n
   change = abort-change (s .table) n (proper .sound)
 
   -- what becomes aborted was live, not committed
@@ -54,17 +55,17 @@ module _ (s : State) (proper : Proper s) (n : ℕ) where
       abort-keeps-row (s .table) n m g inside
       (λ h reached. live-uncommitted (s .table) m (and-left (isLive (s .table) m) _ reached) done))
 
-  pub abort-drops : Drop (see s) (see (abort s n .after))
+  pub abort-drops : Drop (abstraction s) (abstraction (abort s n .after))
   unfolding abort
   abort-drops = change-drops proper change abort-keeps
 
-  pub abort-old : Old (see s) (see (abort s n .after)) (Stale s) (Stale (abort s n .after))
+  pub abort-old : Old (abstraction s) (abstraction (abort s n .after)) (Stale s) (Stale (abort s n .after))
   unfolding abort
   abort-old = keeps-old s (abortTable (s .table) n) abort-keeps
 
 -- ---- a failed commit
 
-module _ (s : State) (proper : Proper s) (n : ℕ) (j : Judged (s .table) n) where
+module _ (s : Ledger) (proper : Proper s) (n : ℕ) (j : Committable (s .table) n) where
   abbrev failed : List ℕ
   failed = withState (s .table) n aborted
 
@@ -77,9 +78,9 @@ module _ (s : State) (proper : Proper s) (n : ℕ) (j : Judged (s .table) n) whe
       word-other-row (s .table) n m stateField g aborted (omega arith) inside
       (λ same. live-uncommitted (s .table) n (j .alive) (rw same at done)))
 
-  pub fail-drops : Drop (see s) (see (withTable s (withState (s .table) n aborted)))
+  pub fail-drops : Drop (abstraction s) (abstraction (withTable s (withState (s .table) n aborted)))
   fail-drops = change-drops proper (fail-change (s .table) (proper .sound) n j) fail-keeps
 
   pub fail-old :
-      Old (see s) (see (withTable s (withState (s .table) n aborted))) (Stale s) (Stale (withTable s (withState (s .table) n aborted)))
+      Old (abstraction s) (abstraction (withTable s (withState (s .table) n aborted))) (Stale s) (Stale (withTable s (withState (s .table) n aborted)))
   fail-old = keeps-old s failed fail-keeps

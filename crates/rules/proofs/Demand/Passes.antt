@@ -1,22 +1,22 @@
--- An action without a clash passes: no read of its own is stale at its parent. Requests 7 and 9 change what makes a read
--- stale. Assumes nothing.
+-- An action without a clash passes: no read of its own is stale at its parent. Assumes nothing.
 use Prim.Native.Nat.{ℕ}
 use mathlib.Core.Path.{_≡_}
 use mathlib.Core.Bool.{true}
 use mathlib.Core.List.{List·Memᴰ, List·Memᴰ·not-nil}
 use borrow.Author.Tests.{lt-ltb}
 use Rattle.rules.specs.Table.{parentOf}
-use Rattle.rules.specs.Clash.{clashes, none, firstClash}
-use Rattle.rules.specs.Step.{State}
+use Rattle.rules.specs.declared.Found.the-variants.{Nothing}
+use Rattle.rules.specs.Clash.{clashes, firstClash}
+use Rattle.rules.specs.Ledger.{Ledger}
 use Rattle.rules.proofs.Laws.Tests.{and-both}
 use Rattle.rules.proofs.Clash.Clashes.{in-clashes, firstClash-none}
 use Rattle.rules.proofs.Serial.Stale.{Passes}
-use Rattle.rules.proofs.Demand.See.{hasReadAccount, see, Stale}
-use Rattle.rules.proofs.Demand.Seeing.{read-account, read-entered}
+use Rattle.rules.proofs.Demand.Abstraction.{hasReadAccount, abstraction, Stale}
+use Rattle.rules.proofs.Demand.AbstractionLaws.{read-account, read-entered}
 
 -- what makes a read stale at the parent is a pair of the clash list
 stale-clashes :
-    (s : State) (n k : ℕ) → hasReadAccount (s .table) n k ≡ true → (st : Stale s n (parentOf (s .table) n) k) →
+    (s : Ledger) (n k : ℕ) → hasReadAccount (s .table) n k ≡ true → (st : Stale s n (parentOf (s .table) n) k) →
     List·Memᴰ (record { holder = st .holder; account = k }) (clashes (s .table) n)
 stale-clashes s n k has st =
     in-clashes (s .table) n _ .1
@@ -27,6 +27,6 @@ stale-clashes s n k has st =
       clash = and-both (and-both (st .written) (read-entered (s .table) n k has)) (lt-ltb _ _ (st .later));
     })
 
-pub no-clash-passes : (s : State) (n : ℕ) → firstClash (s .table) n ≡ none → Passes (see s) (Stale s) n
+pub no-clash-passes : (s : Ledger) (n : ℕ) → firstClash (s .table) n ≡ Nothing → Passes (abstraction s) (Stale s) n
 no-clash-passes s n clear k has st =
     List·Memᴰ·not-nil (rw (firstClash-none (s .table) n .0 clear) at (stale-clashes s n k has st))

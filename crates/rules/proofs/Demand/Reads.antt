@@ -1,5 +1,5 @@
 -- A read as demand 3's proof sees it: the account is in the reader's read set, nobody else has changed, and the reader's view
--- is the card that a look then shows. Request 3 leaves the reads over an own card out of the read set. Assumes nothing.
+-- is the card that a look then shows. Assumes nothing.
 use Prim.Native.Nat.{ℕ, _+_, _<_}
 use native.Mathlib.Nat.{le-of-eq}
 use native.Mathlib.Omega.{arith}
@@ -16,30 +16,31 @@ use Rattle.rules.specs.Sound.{IsStarted}
 use Rattle.rules.specs.Event.{readBy}
 use Rattle.rules.specs.Nearest.{nearest}
 use Rattle.rules.specs.Look.{lookCause, cardPart, bytesOf, lookedCard}
-use Rattle.rules.specs.Step.{State, withTable, readTable, read}
+use Rattle.rules.specs.Ledger.{Ledger, withTable}
+use Rattle.rules.specs.Step.{readTable, read}
 use Rattle.rules.proofs.Laws.Tests.{test, cond-holds}
 use Rattle.rules.proofs.Laws.Ranges.{any-agree}
 use Rattle.rules.proofs.Laws.Causes.{allowed-none}
 use Rattle.rules.proofs.Sound.Soundness.{tested}
-use Rattle.rules.proofs.Sound.Changes.{Change, live-uncommitted}
+use Rattle.rules.proofs.Sound.TableChanges.{TableChange, live-uncommitted}
 use Rattle.rules.proofs.Sound.Reading.{read-keeps-field, read-keeps-row, read-entry, read-change}
 use Rattle.rules.proofs.Stores.Looking.{look-refused-as-read, look-given}
 use Rattle.rules.proofs.Serial.Events.{Read}
 use Rattle.rules.proofs.Serial.Stale.{Old}
-use Rattle.rules.proofs.Demand.See.{cardOf, viewOf, see, Stale}
-use Rattle.rules.proofs.Demand.Seeing.{Proper, live-alive, account-read, view-account}
+use Rattle.rules.proofs.Demand.Abstraction.{cardOf, viewOf, abstraction, Stale}
+use Rattle.rules.proofs.Demand.AbstractionLaws.{Proper, live-alive, account-read, view-account}
 use Rattle.rules.proofs.Demand.Views.{Keeps, keeps-still, keeps-old, was-alive, change-keeps-proper}
 
 -- ---- a look shows the view
 
-abbrev pub lookCauseIn : State → ℕ → ℕ → ℕ
+abbrev pub lookCauseIn : Ledger → ℕ → ℕ → ℕ
 lookCauseIn s n k = lookCause (s .table) (s .base) (s .shadow) n k
 
-abbrev pub lookedIn : State → ℕ → ℕ → List ℕ
+abbrev pub lookedIn : Ledger → ℕ → ℕ → List ℕ
 lookedIn s n k = lookedCard (s .table) (s .base) (s .shadow) n k
 
 -- the bytes of the part that holds m's card
-part-bytes : (s : State) (m k : ℕ) → bytesOf (s .base) (s .shadow) (cardPart m k) ≡ cardOf s m k
+part-bytes : (s : Ledger) (m k : ℕ) → bytesOf (s .base) (s .shadow) (cardPart m k) ≡ cardOf s m k
 unfolding cardOf cardAt
 part-bytes s m k = cases (test (eqb m 0))
   where
@@ -47,7 +48,7 @@ part-bytes s m k = cases (test (eqb m 0))
     cases (inl store) = rw store
     cases (inr action) = rw action
 
-pub view-looked : (s : State) (n k : ℕ) → k < accountCount → lookCauseIn s n k ≡ 0 → viewOf s n k ≡ lookedIn s n k
+pub view-looked : (s : Ledger) (n k : ℕ) → k < accountCount → lookCauseIn s n k ≡ 0 → viewOf s n k ≡ lookedIn s n k
 view-looked s n k account given =
     view-account s n k account
     ∙ rw (look-given (s .table) (s .base) (s .shadow) n k given) (sym (part-bytes s (nearest (s .table) n k) k))
@@ -55,7 +56,7 @@ view-looked s n k account given =
 -- ---- the event
 
 module _
-    (s : State) (proper : Proper s) (n k : ℕ) (own : IsStarted (s .table) n) (alive : isLive (s .table) n ≡ true)
+    (s : Ledger) (proper : Proper s) (n k : ℕ) (own : IsStarted (s .table) n) (alive : isLive (s .table) n ≡ true)
     (account : k < accountCount) where
   abbrev before : List ℕ
   before = s .table
@@ -63,7 +64,7 @@ module _
   abbrev after : List ℕ
   after = readTable before n k
 
-  change : Change before after n
+  change : TableChange before after n
   change = read-change before n k account (proper .sound)
 
   proper-after : Proper (withTable s after)
@@ -75,7 +76,7 @@ module _
   state-kept : (m : ℕ) → stateOf after m ≡ stateOf before m
   state-kept m = read-keeps-field before n k account m stateField (omega arith) (λ z. omega arith)
 
-  -- "a later read keeps the first time"
+  -- a time that is there stays
   entry-kept : (m j : ℕ) → j < accountCount → hasRead before m j ≡ true → readEntry after m j ≡ readEntry before m j
   entry-kept m j inside has = cases (ℕ-discrete m n) (ℕ-discrete j k)
     where
@@ -94,7 +95,7 @@ module _
         rows = λ m h done g inside. read-keeps-row before n k account m g inside (λ e. live-uncommitted before n alive (rw e at done));
       }
 
-  -- "if the account isn't in the read set it is added"
+  -- the account is in the read set then
   entered : hasRead after n k ≡ true
   entered =
       rw (read-entry before n k account (proper .sound) own)
@@ -102,7 +103,7 @@ module _
       (λ has. has)
       (λ _. ap not (ne-eqb (counter before + 1) 0 (λ z. omega arith))))
 
-  pub read-reads : Read (see s) (see (read s n k .after)) n k
+  pub read-reads : Read (abstraction s) (abstraction (read s n k .after)) n k
   unfolding read
   read-reads =
       record {
@@ -112,11 +113,11 @@ module _
         noted = inl (account-read after n k account entered);
       }
 
-  pub read-old : Old (see s) (see (read s n k .after)) (Stale s) (Stale (read s n k .after))
+  pub read-old : Old (abstraction s) (abstraction (read s n k .after)) (Stale s) (Stale (read s n k .after))
   unfolding read
   read-old = keeps-old s after read-keeps
 
-  -- ---- "The card a read was given is the one a look shows directly after it."
+  -- ---- RULES 3.3: what a look shows directly after the read
 
   module _ (childless : hasLiveChild (s .table) n ≡ false) where
     childless-after : hasLiveChild after n ≡ false

@@ -1,5 +1,4 @@
--- A start as demand 3's proof sees it: the next number is live and has no effect, and nobody else has changed. Request 8 gives
--- numbers again, and so asks more of a start than that it leaves the other rows as they were. Assumes nothing.
+-- A start as demand 3's proof sees it: the next number is live and has no effect, and nobody else has changed. Assumes nothing.
 use Prim.Native.Nat.{ℕ, _+_, _≤_, _<_}
 use native.Mathlib.Omega.{arith}
 use mathlib.Core.Path.{_≡_, ap}
@@ -11,16 +10,17 @@ use lib.Dec.{eqb}
 use borrow.Author.Tests.{eq-eqb}
 use Rattle.rules.specs.Table.{mostActions, started, parentField, stateField, readField, writeField, isLive}
 use Rattle.rules.specs.Sound.{IsStarted}
-use Rattle.rules.specs.Step.{State, withTable, startTable, start}
+use Rattle.rules.specs.Ledger.{Ledger, withTable}
+use Rattle.rules.specs.Step.{startTable, start}
 use Rattle.rules.proofs.Sound.Starting.{start-keeps-row, start-started, start-state, start-write, start-keeps-sound}
 use Rattle.rules.proofs.Serial.Events.{Start}
 use Rattle.rules.proofs.Serial.Stale.{Old}
-use Rattle.rules.proofs.Demand.See.{isAlive, effectOf, see, Stale}
-use Rattle.rules.proofs.Demand.Seeing.{Proper, alive-started, alive-live, live-alive, effect-unwritten, effect-no-account, by-account}
+use Rattle.rules.proofs.Demand.Abstraction.{isAlive, effectOf, abstraction, Stale}
+use Rattle.rules.proofs.Demand.AbstractionLaws.{Proper, alive-started, alive-live, live-alive, effect-unwritten, effect-no-account, by-account}
 use Rattle.rules.proofs.Demand.Views.{RowKept, Keeps, keeps-still, keeps-old}
 
 module _
-    (s : State) (proper : Proper s) (p : ℕ) (known : p ≤ started (s .table)) (alive : 1 ≤ p → isLive (s .table) p ≡ true)
+    (s : Ledger) (proper : Proper s) (p : ℕ) (known : p ≤ started (s .table)) (alive : 1 ≤ p → isLive (s .table) p ≡ true)
     (room : started (s .table) < mostActions) where
   abbrev before : List ℕ
   before = s .table
@@ -74,7 +74,7 @@ module _
       (ap (λ entry. not (eqb entry 0)) (start-write before p (proper .sound .long) room k account)))
       (effect-no-account (withTable s after) next k)
 
-  pub start-starts : Start (see s) (see (start s p .after)) (started (s .table) + 1)
+  pub start-starts : Start (abstraction s) (abstraction (start s p .after)) (started (s .table) + 1)
   unfolding start
   start-starts =
       record {
@@ -84,6 +84,6 @@ module _
         started-empty = next-no-effect;
       }
 
-  pub start-old : Old (see s) (see (start s p .after)) (Stale s) (Stale (start s p .after))
+  pub start-old : Old (abstraction s) (abstraction (start s p .after)) (Stale s) (Stale (start s p .after))
   unfolding start
   start-old = keeps-old s after start-keeps

@@ -11,31 +11,34 @@ use Rattle.rules.specs.Card.{baseLength, shadowLength, basePlace, cardAt
 use Rattle.rules.specs.Table.{newTable, word, isLive}
 use Rattle.rules.specs.Sound.{IsStarted}
 use Rattle.rules.specs.Event.{Event, isStart, isRead, isWrite, isCommit}
-use Rattle.rules.specs.Clash.{Found, none, at, firstClash}
-use Rattle.rules.specs.Step.{State, Outcome, start, read, write, judged, commit, abort, step}
+use Rattle.rules.specs.declared.Found.{Found}
+use Rattle.rules.specs.declared.Found.the-variants.{Nothing, At}
+use Rattle.rules.specs.Clash.{firstClash}
+use Rattle.rules.specs.Ledger.{Ledger}
+use Rattle.rules.specs.Step.{Outcome, start, read, write, judged, commit, abort, step}
 use Rattle.rules.specs.Run.{run}
 use Rattle.rules.specs.Serial.Collect.{Known, commitsAt, laidAll, stepped, collectOne, collectFrom, unknown, storeBlock}
 use Rattle.rules.specs.Serial.Machine.{serial}
 use Rattle.rules.specs.Serial.Demand.{cardGiven, newOver, answersTo, Demand3}
 use Rattle.rules.proofs.Laws.Tests.{or-inl, or-inr}
 use Rattle.rules.proofs.Laws.Bytes.{store-by-cards}
-use Rattle.rules.proofs.Laws.Steps.{AllowedIn, step-by-cause, act-by-kind, read-no-start, write-no-start, commit-no-start}
-use Rattle.rules.proofs.Sound.Judging.{Judged, fail-change}
+use Rattle.rules.proofs.Laws.EventCases.{AllowedIn, step-by-cause, act-by-kind, read-no-start, write-no-start, commit-no-start}
+use Rattle.rules.proofs.Sound.Judging.{Committable, fail-change}
 use Rattle.rules.proofs.Sound.Aborting.{abort-change}
 use Rattle.rules.proofs.Sound.Kept.{new-sound, step-keeps-sound}
 use Rattle.rules.proofs.Stores.Untouched.{lengths-kept}
 use Rattle.rules.proofs.Serial.Invariant.{inv-opening}
-use Rattle.rules.proofs.Serial.Running.{Whole, OnlyChildren, Ran, block-runs}
+use Rattle.rules.proofs.Serial.Running.{Whole, OnlyChildren, SerialRun, block-runs}
 use Rattle.rules.proofs.Serial.Exact.{exact-acts}
 use Rattle.rules.proofs.Serial.Order.{in-order}
-use Rattle.rules.proofs.Demand.Seeing.{Proper, alive-started, card-of-store}
+use Rattle.rules.proofs.Demand.AbstractionLaws.{Proper, alive-started, card-of-store}
 use Rattle.rules.proofs.Demand.Reads.{lookedIn}
 use Rattle.rules.proofs.Demand.Drops.{abort-drops, abort-old, fail-drops, fail-old}
 use Rattle.rules.proofs.Demand.Collected.{Kept, drop-kept, start-kept, read-kept, write-kept, pass-kept}
 
 -- ---- one event
 
-step-keeps-proper : (s : State) (e : Event) → Proper s → Proper (step s e .after)
+step-keeps-proper : (s : Ledger) (e : Event) → Proper s → Proper (step s e .after)
 step-keeps-proper s e proper =
     let lengths = lengths-kept s e in
     record {
@@ -44,7 +47,7 @@ step-keeps-proper s e proper =
       shadowFits = lengths .ofShadow ∙ proper .shadowFits;
     }
 
-module _ (got opening : ℕ → List ℕ) (i : ℕ) (e : Event) {s : State} {c : Known} (kept : Kept got opening s c) where
+module _ (got opening : ℕ → List ℕ) (i : ℕ) (e : Event) {s : Ledger} {c : Known} (kept : Kept got opening s c) where
   -- an outcome that may be proper, and after which a look shows what the place was given, keeps what is kept
   Keeps : Outcome → Type 0
   Keeps o =
@@ -78,10 +81,10 @@ module _ (got opening : ℕ → List ℕ) (i : ℕ) (e : Event) {s : State} {c :
         write-kept got opening kept i (e .number) (e .account) (own other) (alive other) (a .accountKnown used)
         (a .childless (or-inl (isCommit e) used)) (e .card) (a .cardFits is) proper′
 
-    judges : Judged (s .table) (e .number) → (f : Found) → firstClash (s .table) (e .number) ≡ f → Keeps (judged s (e .number) f)
+    judges : Committable (s .table) (e .number) → (f : Found) → firstClash (s .table) (e .number) ≡ f → Keeps (judged s (e .number) f)
     unfolding Keeps judged collectOne commitsAt stepped laidAll
-    judges j none clear proper′ given = pass-kept got opening kept i (e .number) j proper′ clear
-    judges j (at t k) clash proper′ given =
+    judges j Nothing clear proper′ given = pass-kept got opening kept i (e .number) j proper′ clear
+    judges j (At t k) clash proper′ given =
         drop-kept got opening kept i proper′ (fail-change (s .table) (kept .proper .sound) (e .number) j)
         (fail-drops s (kept .proper) (e .number) j) (fail-old s (kept .proper) (e .number) j)
 
@@ -107,13 +110,13 @@ module _ (got opening : ℕ → List ℕ) (i : ℕ) (e : Event) {s : State} {c :
 -- ---- a list of events
 
 -- a look directly after each event, from place i on, shows what `got` has there
-Shows : (ℕ → List ℕ) → ℕ → State → List Event → Type 0
+Shows : (ℕ → List ℕ) → ℕ → Ledger → List Event → Type 0
 Shows got i s [] = Unit {0}
 Shows got i s (e ∷ es) =
     (lookedIn (step s e .after) (e .number) (e .account) ≡ got i) × Shows got (suc i) (step s e .after) es
 
 run-keeps :
-    (got opening : ℕ → List ℕ) (i : ℕ) (es : List Event) {s : State} {c : Known} → Kept got opening s c → Shows got i s es →
+    (got opening : ℕ → List ℕ) (i : ℕ) (es : List Event) {s : Ledger} {c : Known} → Kept got opening s c → Shows got i s es →
     Kept got opening (run s es .after) (collectFrom i es (run s es .answers) c)
 unfolding run collectFrom Shows Keeps
 run-keeps got opening i [] kept shown = kept
@@ -121,7 +124,7 @@ run-keeps got opening i (e ∷ es) {s} kept shown =
     run-keeps got opening (suc i) es
     (step-keeps got opening i e kept (step-keeps-proper s e (kept .proper)) (shown .0)) (shown .1)
 
-given-shows : (got : ℕ → List ℕ) (i : ℕ) (s : State) (es : List Event) → ((j : ℕ) → got (i + j) ≡ cardGiven s es j) → Shows got i s es
+given-shows : (got : ℕ → List ℕ) (i : ℕ) (s : Ledger) (es : List Event) → ((j : ℕ) → got (i + j) ≡ cardGiven s es j) → Shows got i s es
 unfolding Shows cardGiven run
 given-shows got i s [] same = tt
 given-shows got i s (e ∷ es) same = (
@@ -155,7 +158,7 @@ module _ (base shadow : List ℕ) (baseFits : length base ≡ baseLength) (shado
     abbrev got : ℕ → List ℕ
     got = cardGiven (newOver base shadow) es
 
-    abbrev final : State
+    abbrev final : Ledger
     final = run (newOver base shadow) es .after
 
     kept-at-last : Kept got openingCards final (collectFrom 0 es (answersTo base shadow es) unknown)
@@ -163,7 +166,7 @@ module _ (base shadow : List ℕ) (baseFits : length base ≡ baseLength) (shado
         run-keeps got openingCards 0 es (kept-at-first got)
         (given-shows got 0 (newOver base shadow) es (λ j. ap got (zero-add j)))
 
-    block-ran : Ran got (storeBlock es (answersTo base shadow es)) base (serial es (answersTo base shadow es) base)
+    block-ran : SerialRun got (storeBlock es (answersTo base shadow es)) base (serial es (answersTo base shadow es) base)
     unfolding serial storeBlock
     block-ran =
         block-runs got _ (kept-at-last .whole 0) (kept-at-last .top) base baseFits (kept-at-last .holds .store .fine)

@@ -1,5 +1,5 @@
--- What makes two states show the same: effects that stay, and reads that stay stale; and what an event must keep of the table,
--- where it touches no store, to lay nothing on anybody. Requests 7 and 9 change what makes a read stale. Assumes nothing.
+-- What makes two ledgers show the same: effects that stay, and reads that stay stale; and what an event must keep of the table,
+-- where it touches no store, to lay nothing on anybody. Assumes nothing.
 use Prim.Native.Nat.{ℕ, _-_, _≤_, _<_}
 use native.Mathlib.Nat.{le-of-eq}
 use native.Mathlib.Omega.{arith}
@@ -9,21 +9,21 @@ use mathlib.Core.List.{List}
 use Rattle.rules.specs.Card.{accountCount, shadowPlace, cardAt}
 use Rattle.rules.specs.Table.{width, word, started, parentField, parentOf, stateField, endField, readEntry, hasRead, readTime, writeField, writeEntry, hasWrites, isCommitted, hasEnd, isChildOf, isRecordOf}
 use Rattle.rules.specs.Sound.{IsStarted}
-use Rattle.rules.specs.Step.{State, withTable}
+use Rattle.rules.specs.Ledger.{Ledger, withTable}
 use Rattle.rules.proofs.Laws.Tests.{and-left, and-right}
-use Rattle.rules.proofs.Sound.Changes.{Change, change-keeps-sound, writes-agree}
+use Rattle.rules.proofs.Sound.TableChanges.{TableChange, change-keeps-sound, writes-agree}
 use Rattle.rules.proofs.Serial.Events.{Still, lays-nothing}
 use Rattle.rules.proofs.Serial.Stale.{Old}
 use Rattle.rules.proofs.Laws.Cards.{Fits}
 use Rattle.rules.proofs.Stores.Copies.{shadow-line, line-fits}
-use Rattle.rules.proofs.Demand.See.{isAlive, effectOf, hasReadAccount, see, Stale}
-use Rattle.rules.proofs.Demand.Seeing.{Proper, alive-started, alive-live, live-alive, read-account, read-entered, account-read, effect-account, effect-no-account, card-of-store, by-account, see-tree}
+use Rattle.rules.proofs.Demand.Abstraction.{isAlive, effectOf, hasReadAccount, abstraction, Stale}
+use Rattle.rules.proofs.Demand.AbstractionLaws.{Proper, alive-started, alive-live, live-alive, read-account, read-entered, account-read, effect-account, effect-no-account, card-of-store, by-account, abstract-tree}
 
 -- ---- effects
 
 -- an action with the same write entry and the same card has the same effect
 pub effect-kept :
-    (s t : State) (X k : ℕ) → (k < accountCount → writeEntry (t .table) X k ≡ writeEntry (s .table) X k) →
+    (s t : Ledger) (X k : ℕ) → (k < accountCount → writeEntry (t .table) X k ≡ writeEntry (s .table) X k) →
     (k < accountCount → cardAt (t .shadow) (shadowPlace X k) ≡ cardAt (s .shadow) (shadowPlace X k)) →
     effectOf t X k ≡ effectOf s X k
 effect-kept s t X k entry card =
@@ -49,7 +49,7 @@ record-kept w v Q m row =
 -- A stale read stays stale where committed actions keep their rows: what makes it stale is one of them. And whoever has read
 -- the account at no later a time has a stale read too.
 pub stale-stays :
-    (s t : State) {X Y Q k : ℕ} → k < accountCount → started (s .table) ≤ started (t .table) →
+    (s t : Ledger) {X Y Q k : ℕ} → k < accountCount → started (s .table) ≤ started (t .table) →
     ((m : ℕ) → IsStarted (s .table) m → isCommitted (s .table) m ≡ true → RowKept (s .table) (t .table) m) →
     readTime (t .table) Y k ≤ readTime (s .table) X k → Stale s X Q k → Stale t Y Q k
 stale-stays s t {Q = Q} {k = k} account no-fewer rows no-later st =
@@ -67,7 +67,7 @@ stale-stays s t {Q = Q} {k = k} account no-fewer rows no-later st =
 
 -- the card of a started action lies inside the store
 pub shadow-fits :
-    {s : State} → Proper s → (X k : ℕ) → IsStarted (s .table) X → k < accountCount → Fits (s .shadow) (shadowPlace X k)
+    {s : Ledger} → Proper s → (X k : ℕ) → IsStarted (s .table) X → k < accountCount → Fits (s .shadow) (shadowPlace X k)
 shadow-fits {s} proper X k begun account =
     line-fits (shadow-line (s .shadow) X (proper .shadowFits) (omega (arith, begun, proper .sound .few))) k account
 
@@ -82,7 +82,7 @@ pub record Keeps (w v : List ℕ) : Type 0 where
   pub reads : (m k : ℕ) → IsStarted w m → k < accountCount → hasRead w m k ≡ true → readEntry v m k ≡ readEntry w m k
   pub rows : (m : ℕ) → IsStarted w m → isCommitted w m ≡ true → RowKept w v m
 
-module _ (s : State) (v : List ℕ) (kept : Keeps (s .table) v) where
+module _ (s : Ledger) (v : List ℕ) (kept : Keeps (s .table) v) where
   entry-kept :
       (X k : ℕ) → isAlive (s .table) X ≡ true → hasReadAccount (s .table) X k ≡ true → readEntry v X k ≡ readEntry (s .table) X k
   entry-kept X k l has =
@@ -92,15 +92,15 @@ module _ (s : State) (v : List ℕ) (kept : Keeps (s .table) v) where
   read-kept X k l has =
       account-read v X k (read-account (s .table) X k has) (rw (entry-kept X k l has) (read-entered (s .table) X k has))
 
-  pub keeps-still : Proper s → Proper (withTable s v) → Still (see s) (see (withTable s v))
+  pub keeps-still : Proper s → Proper (withTable s v) → Still (abstraction s) (abstraction (withTable s v))
   keeps-still proper proper′ =
-      lays-nothing (see-tree s proper) (see-tree (withTable s v) proper′)
+      lays-nothing (abstract-tree s proper) (abstract-tree (withTable s v) proper′)
       (λ X x. kept .parents X (alive-started (s .table) X (x .before)))
       (λ X k x. read-kept X k (x .before))
       (λ X k x. effect-kept s (withTable s v) X k (kept .writes X k (alive-started (s .table) X (x .before))) (λ _. refl))
       (λ k. card-of-store (withTable s v) k ∙ sym (card-of-store s k))
 
-  pub keeps-old : Old (see s) (see (withTable s v)) (Stale s) (Stale (withTable s v))
+  pub keeps-old : Old (abstraction s) (abstraction (withTable s v)) (Stale s) (Stale (withTable s v))
   keeps-old X Q k x has seen =
       stale-stays s (withTable s v) (read-account (s .table) X k has) (kept .noFewer) (kept .rows)
       (le-of-eq (ap (λ entry. entry - 1) (entry-kept X k (x .before) has)))
@@ -108,15 +108,15 @@ module _ (s : State) (v : List ℕ) (kept : Keeps (s .table) v) where
 -- ---- an event that starts nothing
 
 -- it makes nobody live
-pub same-parent : {w v : List ℕ} {now : ℕ} → Change w v now → (X : ℕ) → isAlive w X ≡ true → parentOf v X ≡ parentOf w X
+pub same-parent : {w v : List ℕ} {now : ℕ} → TableChange w v now → (X : ℕ) → isAlive w X ≡ true → parentOf v X ≡ parentOf w X
 same-parent {w} c X l = c .parents X (alive-started w X l)
 
-pub was-alive : {w v : List ℕ} {now : ℕ} → Change w v now → (X : ℕ) → isAlive v X ≡ true → isAlive w X ≡ true
+pub was-alive : {w v : List ℕ} {now : ℕ} → TableChange w v now → (X : ℕ) → isAlive v X ≡ true → isAlive w X ≡ true
 was-alive {w} {v} c X l =
     let begun : IsStarted w X = rw (c .sameStarted) at (alive-started v X l) in
     live-alive w X begun (c .wasLive X begun (alive-live v X l))
 
-pub change-keeps-proper : {s : State} {v : List ℕ} {now : ℕ} → Proper s → Change (s .table) v now → Proper (withTable s v)
+pub change-keeps-proper : {s : Ledger} {v : List ℕ} {now : ℕ} → Proper s → TableChange (s .table) v now → Proper (withTable s v)
 change-keeps-proper {s} {v} {now} proper c =
     record {
       sound = change-keeps-sound (s .table) v now (proper .sound) c;

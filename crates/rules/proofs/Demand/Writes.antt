@@ -1,5 +1,4 @@
--- A write as demand 3's proof sees it: the card is laid on the writer's account, and a stale read stays stale. Request 2
--- lays an amount there for an add. Assumes nothing.
+-- A write as demand 3's proof sees it: the card is laid on the writer's account, and a stale read stays stale. Assumes nothing.
 use Prim.Native.Nat.{ℕ, _<_}
 use native.Mathlib.Omega.{arith}
 use native.Mathlib.Decide.{ℕ-discrete}
@@ -11,36 +10,37 @@ use mathlib.Core.Option.{some}
 use mathlib.Core.List.{List}
 use lib.ListN.{length}
 use Rattle.rules.specs.Card.{accountCount, cardLength, shadowPlace}
-use Rattle.rules.specs.Table.{width, word, stateField, readField, readEntry, writeField, writeEntry, isLive, isCommitted, hasLiveChild}
+use Rattle.rules.specs.Table.{width, word, stateField, readField, readEntry, writeField, writeEntry, entered, isLive, isCommitted, hasLiveChild}
 use Rattle.rules.specs.Sound.{IsStarted}
-use Rattle.rules.specs.Step.{State, writeTable, write}
+use Rattle.rules.specs.Ledger.{Ledger}
+use Rattle.rules.specs.Step.{writeTable, write}
 use Rattle.rules.specs.Serial.Effect.{lay}
 use Rattle.rules.proofs.Laws.Words.{word-same}
 use Rattle.rules.proofs.Laws.Cards.{Fits, withCard-length, cardAt-same, cardAt-apart}
-use Rattle.rules.proofs.Sound.Changes.{Change, change-keeps-sound, live-uncommitted}
+use Rattle.rules.proofs.Sound.TableChanges.{TableChange, change-keeps-sound, live-uncommitted}
 use Rattle.rules.proofs.Sound.Writing.{write-keeps-field, write-keeps-row, write-change}
 use Rattle.rules.proofs.Serial.Values.{cards}
 use Rattle.rules.proofs.Serial.Blocks.{only, only-there, only-elsewhere}
 use Rattle.rules.proofs.Serial.Change as serial
 use Rattle.rules.proofs.Serial.Events.{Write}
 use Rattle.rules.proofs.Serial.Stale.{Old}
-use Rattle.rules.proofs.Demand.See.{isAlive, effectOf, hasReadAccount, see, Stale}
-use Rattle.rules.proofs.Demand.Seeing.{Proper, alive-started, alive-live, live-alive, read-account, read-entered, account-read, effect-written, card-of-store, see-tree}
+use Rattle.rules.proofs.Demand.Abstraction.{isAlive, effectOf, hasReadAccount, abstraction, Stale}
+use Rattle.rules.proofs.Demand.AbstractionLaws.{Proper, alive-started, alive-live, live-alive, read-account, read-entered, account-read, effect-written, card-of-store, abstract-tree}
 use Rattle.rules.proofs.Sound.Judging.{no-live-child}
 use Rattle.rules.proofs.Stores.Copies.{shadow-apart}
 use Rattle.rules.proofs.Demand.Views.{was-alive, same-parent, effect-kept, shadow-fits, RowKept, stale-stays}
 
 module _
-    {s : State} (proper : Proper s) {n k : ℕ} (card : List ℕ) (own : IsStarted (s .table) n) (alive : isLive (s .table) n ≡ true)
+    {s : Ledger} (proper : Proper s) {n k : ℕ} (card : List ℕ) (own : IsStarted (s .table) n) (alive : isLive (s .table) n ≡ true)
     (account : k < accountCount) (whole : length card ≡ cardLength) where
   -- the state and the table after the write
-  abbrev written : State
+  abbrev written : Ledger
   written = write s n k card .after
 
   abbrev table′ : List ℕ
   table′ = writeTable (s .table) n k
 
-  table-change : Change (s .table) table′ n
+  table-change : TableChange (s .table) table′ n
   table-change = write-change (s .table) (proper .sound) n k own alive account
 
   field-kept : (m g : ℕ) → g < width → g ≢ writeField k → word table′ m g ≡ word (s .table) m g
@@ -63,9 +63,9 @@ module _
 
   -- ---- effects
 
-  entry-put : writeEntry table′ n k ≡ 1
+  entry-put : writeEntry table′ n k ≡ entered
   unfolding writeTable
-  entry-put = word-same (s .table) n (writeField k) 1 (proper .sound .long) (omega (arith, own, proper .sound .few)) (omega arith)
+  entry-put = word-same (s .table) n (writeField k) entered (proper .sound .long) (omega (arith, own, proper .sound .few)) (omega arith)
 
   effect-put : effectOf written n k ≡ some card
   unfolding write
@@ -94,7 +94,7 @@ module _
       cases (yes e) = rw (e, only-there cards k (some card)) effect-put
       cases (no ne) = rw (only-elsewhere cards k (some card) j ne) (effect-elsewhere n j own (inr ne))
 
-  -- ---- reads: "The read set doesn't change."
+  -- ---- reads stay
 
   read-entry-kept : (X j : ℕ) → j < accountCount → readEntry table′ X j ≡ readEntry (s .table) X j
   read-entry-kept X j h = field-kept X (readField j) (omega arith) (λ z. omega arith)
@@ -106,12 +106,12 @@ module _
 
   -- ---- what the proof asks of a write
 
-  see-change : serial.Change (see s) (see written) n (only cards k (some card))
+  abstract-change : serial.Change (abstraction s) (abstraction written) n (only cards k (some card))
   unfolding write
-  see-change =
+  abstract-change =
       record {
-        tree = see-tree s proper;
-        tree′ = see-tree written written-proper;
+        tree = abstract-tree s proper;
+        tree′ = abstract-tree written written-proper;
         parent-kept = λ X x. same-parent table-change X (x .before);
         reads-kept = λ X j x. read-kept X j;
         eff-kept = λ X j x other. effect-elsewhere X j (alive-started (s .table) X (x .before)) (inl other);
@@ -124,11 +124,11 @@ module _
   writer-alive =
       live-alive table′ n (rw (table-change .sameStarted) own) (rw (field-kept n stateField (omega arith) (λ z. omega arith)) alive)
 
-  pub see-write : hasLiveChild (s .table) n ≡ false → Write (see s) (see (write s n k card .after)) n k (some card)
+  pub abstract-write : hasLiveChild (s .table) n ≡ false → Write (abstraction s) (abstraction (write s n k card .after)) n k (some card)
   unfolding write
-  see-write childless =
+  abstract-write childless =
       record {
-        change = see-change;
+        change = abstract-change;
         nobody-new = was-alive table-change;
         writer-live = writer-alive;
         childless = λ X l. no-live-child (s .table) n childless X (alive-started (s .table) X l) (alive-live (s .table) X l);
@@ -138,7 +138,7 @@ module _
   committed-row-kept : (m : ℕ) → isCommitted (s .table) m ≡ true → RowKept (s .table) table′ m
   committed-row-kept m done = row-kept m (λ e. live-uncommitted (s .table) n alive (rw e at done))
 
-  pub stale-after-write : Old (see s) (see (write s n k card .after)) (Stale s) (Stale (write s n k card .after))
+  pub stale-after-write : Old (abstraction s) (abstraction (write s n k card .after)) (Stale s) (Stale (write s n k card .after))
   unfolding write
   stale-after-write X Q j x has seen =
       let h = read-account (s .table) X j has in

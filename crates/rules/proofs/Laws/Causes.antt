@@ -10,16 +10,16 @@ use lib.ListN.{length}
 use Rattle.rules.specs.Card.{accountCount, cardLength, baseLength, shadowLength}
 use Rattle.rules.specs.Table.{mostActions, started, isLive, hasLiveChild}
 use Rattle.rules.specs.Sound.{sound}
-use Rattle.rules.specs.Event.{Event, isStart, isRead, isWrite, isCommit}
-use Rattle.rules.specs.Cause.{isStoreMisfit, isCodeUnknown, isNumberUnknown, isNotLive, isTableFull, isAccountUnknown, isCardMisfit, isChildLive, Cause, lowest, storeCauses, eventCauses, causesOf, causeOf}
+use Rattle.rules.specs.Event.{Event, startCode, abortCode, isStart, isRead, isWrite, isCommit}
+use Rattle.rules.specs.Cause.{isStoreLengthWrong, isCodeUnknown, isNumberUnknown, isNotLive, isTableFull, isAccountUnknown, isCardLengthWrong, isChildLive, Cause, firstCause, storeCauses, eventCauses, causesOf, causeOf}
 use Rattle.rules.proofs.Laws.Tests.{test, not-holds, not-fails, and-holds, and-fails, and-fails-left, or-fails, eqb-holds, nonzero, leb-holds, leb-fails, ltb-fails}
 
 -- ---- what each cause denies
 
-pub stores-fit : (base shadow : List ℕ) → (isStoreMisfit base shadow ≡ false) ↔ ((length base ≡ baseLength) × (length shadow ≡ shadowLength))
+pub stores-fit : (base shadow : List ℕ) → (isStoreLengthWrong base shadow ≡ false) ↔ ((length base ≡ baseLength) × (length shadow ≡ shadowLength))
 stores-fit base shadow = simp (not-fails, and-holds, eqb-holds) Iff·rfl
 
-code-known : (code : ℕ) → (isCodeUnknown code ≡ false) ↔ ((1 ≤ code) × (code ≤ 5))
+code-known : (code : ℕ) → (isCodeUnknown code ≡ false) ↔ ((startCode ≤ code) × (code ≤ abortCode))
 code-known code = simp (not-fails, and-holds, leb-holds) Iff·rfl
 
 number-known : (w : List ℕ) (start : Bool) (n : ℕ) → (isNumberUnknown w start n ≡ false) ↔ ((n ≤ started w) × (start ≡ false → 1 ≤ n))
@@ -34,7 +34,7 @@ table-room w start = simp (and-fails, leb-fails) Iff·rfl
 account-known : (used : Bool) (k : ℕ) → (isAccountUnknown used k ≡ false) ↔ (used ≡ true → k < accountCount)
 account-known used k = simp (and-fails, leb-fails) Iff·rfl
 
-card-fits : (used : Bool) (card : List ℕ) → (isCardMisfit used card ≡ false) ↔ (used ≡ true → length card ≡ cardLength)
+card-fits : (used : Bool) (card : List ℕ) → (isCardLengthWrong used card ≡ false) ↔ (used ≡ true → length card ≡ cardLength)
 card-fits used card = simp (and-fails, not-fails, eqb-holds) Iff·rfl
 
 child-finished : (w : List ℕ) (used : Bool) (n : ℕ) → (isChildLive w used n ≡ false) ↔ (used ≡ true → hasLiveChild w n ≡ false)
@@ -47,7 +47,7 @@ pub record Allowed (w base shadow : List ℕ) (e : Event) : Type 0 where
   pub baseFits : length base ≡ baseLength
   pub shadowFits : length shadow ≡ shadowLength
   pub soundTest : sound w ≡ true
-  pub codeKnown : (1 ≤ e .code) × (e .code ≤ 5)
+  pub codeKnown : (startCode ≤ e .code) × (e .code ≤ abortCode)
   pub numberKnown : e .number ≤ started w
   pub named : isStart e ≡ false → 1 ≤ e .number
   pub alive : 1 ≤ e .number → isLive w (e .number) ≡ true
@@ -65,18 +65,18 @@ module _ (w base shadow : List ℕ) (e : Event) where
   pub allowed : causeOf w base shadow e ≡ 0 → Allowed w base shadow e
   unfolding causeOf causesOf storeCauses eventCauses
   allowed none₁ =
-      let (misfit, none₂) = not-given (isStoreMisfit base shadow) _ _ none₁ in
+      let (wrong, none₂) = not-given (isStoreLengthWrong base shadow) _ _ none₁ in
       let (unsound, none₃) = not-given (not (sound w)) _ _ none₂ in
       let (codeUnknown, none₄) = not-given (isCodeUnknown (e .code)) _ _ none₃ in
       let (numberUnknown, none₅) = not-given (isNumberUnknown w (isStart e) (e .number)) _ _ none₄ in
       let (notLive, none₆) = not-given (isNotLive w (e .number)) _ _ none₅ in
       let (full, none₇) = not-given (isTableFull w (isStart e)) _ _ none₆ in
       let (accountUnknown, none₈) = not-given (isAccountUnknown (isRead e || isWrite e) (e .account)) _ _ none₇ in
-      let (cardMisfit, none₉) = not-given (isCardMisfit (isWrite e) (e .card)) _ _ none₈ in
+      let (card, none₉) = not-given (isCardLengthWrong (isWrite e) (e .card)) _ _ none₈ in
       let (childLive, none) = not-given (isChildLive w (isRead e || isWrite e || isCommit e) (e .number)) _ _ none₉ in
       record {
-        baseFits = stores-fit base shadow .0 misfit .0;
-        shadowFits = stores-fit base shadow .0 misfit .1;
+        baseFits = stores-fit base shadow .0 wrong .0;
+        shadowFits = stores-fit base shadow .0 wrong .1;
         soundTest = not-fails (sound w) .0 unsound;
         codeKnown = code-known (e .code) .0 codeUnknown;
         numberKnown = number-known w (isStart e) (e .number) .0 numberUnknown .0;
@@ -84,7 +84,7 @@ module _ (w base shadow : List ℕ) (e : Event) where
         alive = number-alive w (e .number) .0 notLive;
         room = table-room w (isStart e) .0 full;
         accountKnown = account-known (isRead e || isWrite e) (e .account) .0 accountUnknown;
-        cardFits = card-fits (isWrite e) (e .card) .0 cardMisfit;
+        cardFits = card-fits (isWrite e) (e .card) .0 card;
         childless = child-finished w (isRead e || isWrite e || isCommit e) (e .number) .0 childLive;
       }
 
@@ -103,7 +103,7 @@ module _ (w base shadow : List ℕ) (e : Event) where
         child-finished w (isRead e || isWrite e || isCommit e) (e .number) .1 (a .childless),
       )
 
--- ---- "The lowest number that applies is given"
+-- ---- RULES 8.1: the number that is given is the lowest that applies
 
 -- the numbers of a list of causes rise, from above t
 abbrev Rising : ℕ → List Cause → Type 0
@@ -111,20 +111,20 @@ Rising t [] = Unit {0}
 Rising t (c ∷ cs) = (t < c .number) × Rising (c .number) cs
 
 -- what is given is the number of a cause that applies
-given-applies : (cs : List Cause) → lowest cs ≢ 0 → (c : Cause) × List·Memᴰ c cs × (c .applies ≡ true) × (c .number ≡ lowest cs)
+given-applies : (cs : List Cause) → firstCause cs ≢ 0 → (c : Cause) × List·Memᴰ c cs × (c .applies ≡ true) × (c .number ≡ firstCause cs)
 given-applies [] given = absurd (given refl)
 given-applies (c ∷ cs) given =
     ⊎-elim
     (λ p. (c, List·Memᴰ·head refl, p, rw p refl))
     (λ p.
-    let skipped : lowest (c ∷ cs) ≡ lowest cs = rw p in
+    let skipped : firstCause (c ∷ cs) ≡ firstCause cs = rw p in
     let (d, h, q, e) = given-applies cs (λ z. given (skipped ∙ z)) in
     (d, List·Memᴰ·tail h, q, e ∙ sym skipped))
     (test (c .applies))
 
 -- where a cause applies, one is given, and its number is no higher
 given-lowest :
-    (t : ℕ) (cs : List Cause) → Rising t cs → (c : Cause) → List·Memᴰ c cs → c .applies ≡ true → (t < lowest cs) × (lowest cs ≤ c .number)
+    (t : ℕ) (cs : List Cause) → Rising t cs → (c : Cause) → List·Memᴰ c cs → c .applies ≡ true → (t < firstCause cs) × (firstCause cs ≤ c .number)
 given-lowest t [] up c h p = absurd (List·Memᴰ·not-nil h)
 given-lowest t (d ∷ ds) up c h p =
     ⊎-elim

@@ -8,7 +8,7 @@ use mathlib.Core.Path.{_≡_, refl, sym, ap, ap₂, _∙_}
 use mathlib.Core.Logic.{_⊎_, inl, inr, ⊎-elim, _≢_}
 use mathlib.Core.Bool.{Bool, true, false, cond, _||_, false≢true}
 use mathlib.Core.List.{List, [], _∷_, _++_, List·Memᴰ, List·Memᴰ·head, List·Memᴰ·tail, List·Memᴰ·not-nil, List·Memᴰ·cases-cons}
-use Rattle.rules.specs.Range.{upFrom, any, all, count, keep, each}
+use Rattle.rules.specs.Range.{upFrom, any, all, count, filter, fold}
 use Rattle.rules.proofs.Laws.Tests.{and-left, and-right, and-both, or-cases, or-inl, or-inr, or-neither, cond-holds}
 
 -- x is one of the n numbers from a on
@@ -91,11 +91,11 @@ count-agree f g a zero h = refl
 count-agree f g a (suc n) h =
     rw (h a (first-within a n), count-agree f g (suc a) n (λ x r. h x (rest-within a n x r)))
 
-pub keep-agree : (f g : ℕ → Bool) (a n : ℕ) → ((x : ℕ) → Within a n x → f x ≡ g x) → keep f (upFrom a n) ≡ keep g (upFrom a n)
-unfolding keep upFrom
-keep-agree f g a zero h = refl
-keep-agree f g a (suc n) h =
-    rw (h a (first-within a n), keep-agree f g (suc a) n (λ x r. h x (rest-within a n x r)))
+pub filter-agree : (f g : ℕ → Bool) (a n : ℕ) → ((x : ℕ) → Within a n x → f x ≡ g x) → filter f (upFrom a n) ≡ filter g (upFrom a n)
+unfolding filter upFrom
+filter-agree f g a zero h = refl
+filter-agree f g a (suc n) h =
+    rw (h a (first-within a n), filter-agree f g (suc a) n (λ x r. h x (rest-within a n x r)))
 
 -- ---- keep: those of which f holds
 
@@ -109,23 +109,23 @@ module _ {x : ℕ} (y : ℕ) (l : List ℕ) where
   rest-chosen true m = List·Memᴰ·tail m
   rest-chosen false m = m
 
-pub keep-only : (f : ℕ → Bool) (a n x : ℕ) → List·Memᴰ x (keep f (upFrom a n)) → Within a n x × (f x ≡ true)
-unfolding keep upFrom
-keep-only f a zero x m = absurd (List·Memᴰ·not-nil m)
-keep-only f a (suc n) x m =
+pub filter-only : (f : ℕ → Bool) (a n x : ℕ) → List·Memᴰ x (filter f (upFrom a n)) → Within a n x × (f x ≡ true)
+unfolding filter upFrom
+filter-only f a zero x m = absurd (List·Memᴰ·not-nil m)
+filter-only f a (suc n) x m =
     ⊎-elim
     (λ h. (omega arith, rw (h .0) (h .1)))
-    (λ r. let h = keep-only f (suc a) n x r in (omega arith, h .1))
-    (in-chosen a (keep f (upFrom (suc a) n)) (f a) m)
+    (λ r. let h = filter-only f (suc a) n x r in (omega arith, h .1))
+    (in-chosen a (filter f (upFrom (suc a) n)) (f a) m)
 
-pub keep-every : (f : ℕ → Bool) (a n x : ℕ) → Within a n x → f x ≡ true → List·Memᴰ x (keep f (upFrom a n))
-unfolding keep upFrom
-keep-every f a zero x h p = absurd (omega arith)
-keep-every f a (suc n) x h p = go (ℕ-discrete x a) (λ r. keep-every f (suc a) n x r p)
+pub filter-every : (f : ℕ → Bool) (a n x : ℕ) → Within a n x → f x ≡ true → List·Memᴰ x (filter f (upFrom a n))
+unfolding filter upFrom
+filter-every f a zero x h p = absurd (omega arith)
+filter-every f a (suc n) x h p = go (ℕ-discrete x a) (λ r. filter-every f (suc a) n x r p)
   where
-    go : Dec (x ≡ a) → (Within (suc a) n x → List·Memᴰ x (keep f (upFrom (suc a) n))) → List·Memᴰ x (keep f (upFrom a (suc n)))
+    go : Dec (x ≡ a) → (Within (suc a) n x → List·Memᴰ x (filter f (upFrom (suc a) n))) → List·Memᴰ x (filter f (upFrom a (suc n)))
     go (yes e) rest = rw (rw e at p) (List·Memᴰ·head e)
-    go (no ne) rest = rest-chosen a (keep f (upFrom (suc a) n)) (f a) (rest (omega arith))
+    go (no ne) rest = rest-chosen a (filter f (upFrom (suc a) n)) (f a) (rest (omega arith))
 
 -- ---- counts
 
@@ -184,63 +184,63 @@ count-snoc f a (suc n) =
     cond-add true m k = sym (suc-add m k)
     cond-add false m k = refl
 
--- ---- each: a change made once for each of them
+-- ---- fold: a change made once for each of them
 
 -- what every change keeps, all of them keep
-pub each-keeps :
+pub fold-keeps :
     {A : Type 0} (P : A → Type 0) (f : ℕ → A → A) (a n : ℕ) → ((x : ℕ) → Within a n x → (s : A) → P s → P (f x s)) →
-    (s : A) → P s → P (each f (upFrom a n) s)
-unfolding each upFrom
-each-keeps P f a zero h s p = p
-each-keeps P f a (suc n) h s p =
-    each-keeps P f (suc a) n (λ x r. h x (rest-within a n x r)) (f a s) (h a (first-within a n) s p)
+    (s : A) → P s → P (fold f (upFrom a n) s)
+unfolding fold upFrom
+fold-keeps P f a zero h s p = p
+fold-keeps P f a (suc n) h s p =
+    fold-keeps P f (suc a) n (λ x r. h x (rest-within a n x r)) (f a s) (h a (first-within a n) s p)
 
 -- two changes that agree wherever they are made; P x is what holds where x is next
-pub each-agree :
+pub fold-agree :
     {A : Type 0} (P : ℕ → A → Type 0) (f g : ℕ → A → A) (a n : ℕ) →
     ((x : ℕ) → Within a n x → (s : A) → P x s → f x s ≡ g x s) →
     ((x : ℕ) → Within a n x → (s : A) → P x s → P (suc x) (g x s)) →
-    (s : A) → P a s → each f (upFrom a n) s ≡ each g (upFrom a n) s
-unfolding each upFrom
-each-agree P f g a zero agree keeps s p = refl
-each-agree P f g a (suc n) agree keeps s p =
-    ap (each f (upFrom (suc a) n)) (agree a (first-within a n) s p)
-    ∙ each-agree P f g (suc a) n (λ x r. agree x (rest-within a n x r)) (λ x r. keeps x (rest-within a n x r))
+    (s : A) → P a s → fold f (upFrom a n) s ≡ fold g (upFrom a n) s
+unfolding fold upFrom
+fold-agree P f g a zero agree keeps s p = refl
+fold-agree P f g a (suc n) agree keeps s p =
+    ap (fold f (upFrom (suc a) n)) (agree a (first-within a n) s p)
+    ∙ fold-agree P f g (suc a) n (λ x r. agree x (rest-within a n x r)) (λ x r. keeps x (rest-within a n x r))
     (g a s) (keeps a (first-within a n) s p)
 
 -- What the change for k makes of a cell stands there after all of them, where no other change touches that cell. P is
 -- what the changes need and keep.
-pub each-changes :
+pub fold-changes :
     {A B : Type 0} (P : A → Type 0) (cell : A → B) (g : B → B) (f : ℕ → A → A) (a n k : ℕ) →
     ((x : ℕ) → Within a n x → (s : A) → P s → P (f x s)) → ((s : A) → P s → cell (f k s) ≡ g (cell s)) →
     ((x : ℕ) → Within a n x → x ≢ k → (s : A) → P s → cell (f x s) ≡ cell s) → Within a n k →
-    (s : A) → P s → cell (each f (upFrom a n) s) ≡ g (cell s)
-unfolding each upFrom
-each-changes P cell g f a zero k keeps changes other h s p = absurd (omega arith)
-each-changes {A} P cell g f a (suc n) k keeps changes other h s p =
+    (s : A) → P s → cell (fold f (upFrom a n) s) ≡ g (cell s)
+unfolding fold upFrom
+fold-changes P cell g f a zero k keeps changes other h s p = absurd (omega arith)
+fold-changes {A} P cell g f a (suc n) k keeps changes other h s p =
     by-place (ℕ-discrete k a)
-    (each-changes P cell g f (suc a) n k (λ x r. keeps x (omega arith)) changes (λ x r. other x (omega arith)))
+    (fold-changes P cell g f (suc a) n k (λ x r. keeps x (omega arith)) changes (λ x r. other x (omega arith)))
   where
     first : Within a (suc n) a
     first = omega arith
 
     by-place : Dec (k ≡ a) →
-        (Within (suc a) n k → (t : A) → P t → cell (each f (upFrom (suc a) n) t) ≡ g (cell t)) →
-        cell (each f (upFrom (suc a) n) (f a s)) ≡ g (cell s)
+        (Within (suc a) n k → (t : A) → P t → cell (fold f (upFrom (suc a) n) t) ≡ g (cell t)) →
+        cell (fold f (upFrom (suc a) n) (f a s)) ≡ g (cell s)
     by-place (yes e) rest =
-        each-keeps (λ t. P t × (cell t ≡ g (cell s))) f (suc a) n
+        fold-keeps (λ t. P t × (cell t ≡ g (cell s))) f (suc a) n
         (λ x r t q. (keeps x (omega arith) t (q .0), other x (omega arith) (λ z. omega arith) t (q .0) ∙ q .1))
         (f a s) (keeps a first s p, rw e at (changes s p)) .1
     by-place (no ne) rest = rest (omega arith) (f a s) (keeps a first s p) ∙ ap g (other a first (λ z. ne (sym z)) s p)
 
 -- What the change for k puts into a cell stands there after all of them, where no other change touches that cell.
-pub each-puts :
+pub fold-puts :
     {A B : Type 0} (P : A → Type 0) (cell : A → B) (v : B) (f : ℕ → A → A) (a n k : ℕ) →
     ((x : ℕ) → Within a n x → (s : A) → P s → P (f x s)) → ((s : A) → P s → cell (f k s) ≡ v) →
     ((x : ℕ) → Within a n x → x ≢ k → (s : A) → cell (f x s) ≡ cell s) → Within a n k →
-    (s : A) → P s → cell (each f (upFrom a n) s) ≡ v
-each-puts P cell v f a n k keeps puts other =
-    each-changes P cell (λ _. v) f a n k keeps puts (λ x h ne s _. other x h ne s)
+    (s : A) → P s → cell (fold f (upFrom a n) s) ≡ v
+fold-puts P cell v f a n k keeps puts other =
+    fold-changes P cell (λ _. v) f a n k keeps puts (λ x h ne s _. other x h ne s)
 
 -- ---- a run taken from its front, as a loop does: what is left from a on, below an end
 
@@ -293,12 +293,12 @@ module _ (f : ℕ → Bool) (a end : ℕ) where
   unfolding count
   count-left-done h = rw (left-done a end h)
 
-pub each-left-next :
+pub fold-left-next :
     {A : Type 0} (f : ℕ → A → A) (a end : ℕ) (s : A) → a < end →
-    each f (upFrom a (end - a)) s ≡ each f (upFrom (a + 1) (end - (a + 1))) (f a s)
-unfolding each
-each-left-next f a end s h = rw (left-next a end h)
+    fold f (upFrom a (end - a)) s ≡ fold f (upFrom (a + 1) (end - (a + 1))) (f a s)
+unfolding fold
+fold-left-next f a end s h = rw (left-next a end h)
 
-pub each-left-done : {A : Type 0} (f : ℕ → A → A) (a end : ℕ) (s : A) → end ≤ a → each f (upFrom a (end - a)) s ≡ s
-unfolding each
-each-left-done f a end s h = rw (left-done a end h)
+pub fold-left-done : {A : Type 0} (f : ℕ → A → A) (a end : ℕ) (s : A) → end ≤ a → fold f (upFrom a (end - a)) s ≡ s
+unfolding fold
+fold-left-done f a end s h = rw (left-done a end h)

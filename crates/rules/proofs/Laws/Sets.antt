@@ -6,8 +6,8 @@ use mathlib.Core.Logic.{_≢_}
 use mathlib.Core.List.{List}
 use lib.ListN.{length}
 use Rattle.rules.specs.Card.{accountCount, accounts}
-use Rattle.rules.specs.Table.{width, tableLength, word, readField, readEntry, withRead, writeField, writeEntry, withWrite, withSets}
-use Rattle.rules.proofs.Laws.Ranges.{Within, each-keeps, each-puts}
+use Rattle.rules.specs.Table.{width, tableLength, word, readFields, readField, readEntry, withRead, writeField, writeEntry, withWrite, withSets, mostActions}
+use Rattle.rules.proofs.Laws.Ranges.{Within, fold-keeps, fold-puts}
 use Rattle.rules.proofs.Laws.Words.{withWord-length, word-same, word-other-row, word-other-field}
 
 -- a number from 0 on, below 32, is an account
@@ -24,31 +24,31 @@ module _ (w : List ℕ) (n : ℕ) (reads writes : ℕ → ℕ) where
 
   pub withSets-length : length (withSets w n reads writes) ≡ length w
   unfolding withSets accounts put
-  withSets-length = each-keeps (λ s. length s ≡ length w) _ 0 accountCount (λ k h s e. put-length k s ∙ e) w refl
+  withSets-length = fold-keeps (λ s. length s ≡ length w) _ 0 accountCount (λ k h s e. put-length k s ∙ e) w refl
 
   -- the rows of others
   pub withSets-other-row : (m g : ℕ) → g < width → m ≢ n → word (withSets w n reads writes) m g ≡ word w m g
   unfolding withSets accounts
   withSets-other-row m g hg ne =
-      each-keeps (λ s. word s m g ≡ word w m g) _ 0 accountCount
+      fold-keeps (λ s. word s m g ≡ word w m g) _ 0 accountCount
       (λ k h s e.
       word-other-row _ n m (writeField k) g _ (omega arith) hg ne ∙ word-other-row s n m (readField k) g _ (omega arith) hg ne ∙ e)
       w refl
 
   -- parent, state and end time
-  pub withSets-other-field : (g : ℕ) → g < 3 → word (withSets w n reads writes) n g ≡ word w n g
+  pub withSets-other-field : (g : ℕ) → g < readFields → word (withSets w n reads writes) n g ≡ word w n g
   unfolding withSets accounts
   withSets-other-field g hg =
-      each-keeps (λ s. word s n g ≡ word w n g) _ 0 accountCount
+      fold-keeps (λ s. word s n g ≡ word w n g) _ 0 accountCount
       (λ k h s e.
       word-other-field _ n (writeField k) g _ (λ z. omega arith) ∙ word-other-field s n (readField k) g _ (λ z. omega arith) ∙ e)
       w refl
 
-  module _ (long : length w ≡ tableLength) (few : n ≤ 64) where
+  module _ (long : length w ≡ tableLength) (few : n ≤ mostActions) where
     pub withSets-read : (k : ℕ) → k < accountCount → readEntry (withSets w n reads writes) n k ≡ reads k
     unfolding withSets accounts put
     withSets-read k hk =
-        each-puts (λ s. length s ≡ tableLength) (λ s. readEntry s n k) (reads k) put 0 accountCount k
+        fold-puts (λ s. length s ≡ tableLength) (λ s. readEntry s n k) (reads k) put 0 accountCount k
         (λ x h s e. put-length x s ∙ e)
         (λ s e.
         word-other-field _ n (writeField k) (readField k) _ (λ z. omega arith) ∙ word-same s n (readField k) _ e few (omega arith))
@@ -60,7 +60,7 @@ module _ (w : List ℕ) (n : ℕ) (reads writes : ℕ → ℕ) where
     pub withSets-write : (k : ℕ) → k < accountCount → writeEntry (withSets w n reads writes) n k ≡ writes k
     unfolding withSets accounts put
     withSets-write k hk =
-        each-puts (λ s. length s ≡ tableLength) (λ s. writeEntry s n k) (writes k) put 0 accountCount k
+        fold-puts (λ s. length s ≡ tableLength) (λ s. writeEntry s n k) (writes k) put 0 accountCount k
         (λ x h s e. put-length x s ∙ e)
         (λ s e. word-same _ n (writeField k) _ (withWord-length s n _ _ ∙ e) few (omega arith))
         (λ x h ne s.

@@ -82,7 +82,7 @@ module _ {A : Type 0} (parent : ℕ → ℕ) (top : A) (here : ℕ → A → A) 
       walk-move parent top here moves n (h .0)
       ∙ ap (here n) (walk-any-moves moves (suc moves) (parent n) (omega arith) (omega arith) (omega arith))
 
--- ---- the nearest version: "the action's own card, else its parent's nearest version, else the base card"
+-- ---- the nearest version
 
 pub nearest-store : (w : List ℕ) (k : ℕ) → nearest w 0 k ≡ 0
 unfolding nearest

@@ -7,13 +7,13 @@ use mathlib.Core.Logic.{_≢_}
 use mathlib.Core.List.{List}
 use lib.ListN.{length, length-set}
 use lib.Seq.{getD-set-same, getD-set-other}
-use Rattle.rules.specs.Table.{width, tableLength, word, withWord}
+use Rattle.rules.specs.Table.{width, tableLength, word, withWord, mostActions}
 
 pub withWord-length : (w : List ℕ) (n f v : ℕ) → length (withWord w n f v) ≡ length w
 unfolding withWord
 withWord-length w n f v = length-set w (width * n + f) v
 
-pub word-same : (w : List ℕ) (n f v : ℕ) → length w ≡ tableLength → n ≤ 64 → f < width → word (withWord w n f v) n f ≡ v
+pub word-same : (w : List ℕ) (n f v : ℕ) → length w ≡ tableLength → n ≤ mostActions → f < width → word (withWord w n f v) n f ≡ v
 unfolding word withWord
 word-same w n f v long few h = getD-set-same w (width * n + f) v 0 (omega arith)
 

@@ -13,7 +13,7 @@ use Rattle.rules.specs.declared.Answer.the-variants.{Started, Read, Writ
 use Rattle.rules.specs.Event.{Event}
 use Rattle.rules.specs.Serial.Effect.{Effect}
 use Rattle.rules.specs.Serial.Block.{Block, empty, read, write, child}
-use Rattle.rules.specs.Serial.Steps.{Step, begins, reads, writes, ends, stepsOf}
+use Rattle.rules.specs.Serial.Schedule.{Operation, begins, reads, writes, ends, scheduleOf}
 use Rattle.rules.specs.Serial.Reach.{Act, actOf, innermost, actsIn, atPlace}
 
 -- the reads and writes in the block of number n, each with whose it is: n's own, and in a child's block the child's
@@ -26,21 +26,21 @@ actsOf n (child b i who d) = actsOf n b ++ actsOf who d
 -- A child's end takes off what its beginning has put on, so the steps after a block are read with the same actions under
 -- way as the block itself.
 steps-acts :
-    (under : List ℕ) (b : Block Effect) (rest : List (Step Effect)) →
-    actsIn under (stepsOf b ++ rest) ≡ actsOf (innermost under) b ++ actsIn under rest
-unfolding stepsOf actsOf actsIn
+    (under : List ℕ) (b : Block Effect) (rest : List (Operation Effect)) →
+    actsIn under (scheduleOf b ++ rest) ≡ actsOf (innermost under) b ++ actsIn under rest
+unfolding scheduleOf actsOf actsIn
 steps-acts under empty rest = refl
 steps-acts under (read b i k) rest =
-    rw (append-assoc (stepsOf b), steps-acts under b (reads i k ∷ rest), append-assoc)
+    rw (append-assoc (scheduleOf b), steps-acts under b (reads i k ∷ rest), append-assoc)
 steps-acts under (write b i k f) rest =
-    rw (append-assoc (stepsOf b), steps-acts under b (writes i k f ∷ rest), append-assoc)
+    rw (append-assoc (scheduleOf b), steps-acts under b (writes i k f ∷ rest), append-assoc)
 steps-acts under (child b i who d) rest =
-    rw (append-assoc (stepsOf b), steps-acts under b (begins who ∷ ((stepsOf d ++ (ends ∷ [])) ++ rest)))
-    (rw (append-assoc (stepsOf d), steps-acts (who ∷ under) d (ends ∷ rest), append-assoc))
+    rw (append-assoc (scheduleOf b), steps-acts under b (begins who ∷ ((scheduleOf d ++ (ends ∷ [])) ++ rest)))
+    (rw (append-assoc (scheduleOf d), steps-acts (who ∷ under) d (ends ∷ rest), append-assoc))
 
-pub store-steps-acts : (b : Block Effect) → actsIn [] (stepsOf b) ≡ actsOf 0 b
+pub store-steps-acts : (b : Block Effect) → actsIn [] (scheduleOf b) ≡ actsOf 0 b
 unfolding actsIn
-store-steps-acts b = rw (← (append-nil (stepsOf b)), steps-acts [] b [], append-nil)
+store-steps-acts b = rw (← (append-nil (scheduleOf b)), steps-acts [] b [], append-nil)
 
 -- ---- those of one place
 

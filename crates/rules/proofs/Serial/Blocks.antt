@@ -1,5 +1,4 @@
--- What a block leaves on each account, and when all its reads are given what S gave them.
--- No request is expected to touch this file: request 2's sums are effects like any other.
+-- What a block leaves on each account, and when all its reads are given what S gave them. Assumes nothing.
 use mathlib.Core.Path.{_≡_, refl}
 use mathlib.Core.Bool.{cond}
 use Prim.Native.Nat.{ℕ}

@@ -1,22 +1,21 @@
--- What one step may change of the state, and what the actions that live through it then still see.
--- No request is expected to touch this file: an event, old or new, is described by a Change.
+-- What one step may change of the abstract state, and what the actions that live through it then still see. Any event is
+-- described by a Change. Assumes nothing.
 use mathlib.Core.Path.{_≡_, sym, _∙_, ap}
 use mathlib.Core.Bool.{false}
 use mathlib.Core.Logic.{_⊎_, inl, inr, _≢_}
 use Prim.Native.Nat.{ℕ}
 use native.Mathlib.Decide.{ℕ-discrete}
 use Rattle.rules.proofs.Serial.Values.{Values, over-same}
-use Rattle.rules.proofs.Serial.State.{State, Live, HasRead, above, Tree, Seen, direct, through, seen-live}
-use Rattle.rules.proofs.Serial.State.{seen-below, live-not-store, not-below-itself, Way, to-store, to-parent, way}
+use Rattle.rules.proofs.Serial.AbstractState.{AbstractState, Live, HasRead, above, Tree, Seen, direct, through, seen-live, seen-below, live-not-store, not-below-itself, PathUp, to-store, to-parent, path-up}
 
 -- X lives through the step from s to s′.
-pub record Stays {Vs : Values} (s s′ : State Vs) (X : ℕ) : Type 0 where
+pub record Stays {Vs : Values} (s s′ : AbstractState Vs) (X : ℕ) : Type 0 where
   pub before : Live s X
   pub after : Live s′ X
 
 -- The step lays the effects f on P, an action or the store, and on nobody else.
 -- It says nothing of actions that begin or end with it: that is left to each event.
-pub record Change {Vs : Values} (s s′ : State Vs) (P : ℕ) (f : ℕ → Vs .Eff) : Type 0 where
+pub record Change {Vs : Values} (s s′ : AbstractState Vs) (P : ℕ) (f : ℕ → Vs .Eff) : Type 0 where
   pub tree : Tree s
   pub tree′ : Tree s′
   pub parent-kept : (X : ℕ) → Stays s s′ X → s′ .parent X ≡ s .parent X
@@ -27,10 +26,10 @@ pub record Change {Vs : Values} (s s′ : State Vs) (P : ℕ) (f : ℕ → Vs .E
   pub base-laid : (k : ℕ) → P ≡ 0 → s′ .base k ≡ Vs .over (f k) (s .base k)
 
 -- Of the accounts that X has read, X sees none changed at P.
-abbrev pub Undisturbed : {Vs : Values} → State Vs → State Vs → ℕ → (ℕ → Vs .Eff) → ℕ → Type 0
+abbrev pub Undisturbed : {Vs : Values} → AbstractState Vs → AbstractState Vs → ℕ → (ℕ → Vs .Eff) → ℕ → Type 0
 Undisturbed {Vs} s s′ P f X = (k : ℕ) → HasRead s X k → Seen s′ k P X → f k ≡ Vs .nil
 
-module _ {Vs : Values} {s s′ : State Vs} {P : ℕ} {f : ℕ → Vs .Eff} (c : Change s s′ P f) where
+module _ {Vs : Values} {s s′ : AbstractState Vs} {P : ℕ} {f : ℕ → Vs .Eff} (c : Change s s′ P f) where
   open Values Vs using (nil, hides, over, lay-nil, over-nil)
 
   pub base-same : (k : ℕ) → (P ≡ 0 → f k ≡ nil) → s′ .base k ≡ s .base k
@@ -88,7 +87,7 @@ module _ {Vs : Values} {s s′ : State Vs} {P : ℕ} {f : ℕ → Vs .Eff} (c : 
       → above s′ X k ≡ above s X k
   above-by-parent {k} {X} x view≡ = ap (λ Q. s′ .view Q k) (c .parent-kept X x) ∙ view≡
 
-  above-same-along : {k X : ℕ} → Way s X → Stays s s′ X → (Seen s′ k P X → f k ≡ nil) → above s′ X k ≡ above s X k
+  above-same-along : {k X : ℕ} → PathUp s X → Stays s s′ X → (Seen s′ k P X → f k ≡ nil) → above s′ X k ≡ above s X k
   above-same-along {k} (to-store e) x none =
       above-by-parent x (rw e (store-view-same k (λ P≡0. none (direct-after x (e ∙ sym P≡0)))))
   above-same-along (to-parent lp w) x none =
@@ -98,7 +97,7 @@ module _ {Vs : Values} {s s′ : State Vs} {P : ℕ} {f : ℕ → Vs .Eff} (c : 
 
   -- The change lemma: what X begins from stays, on each account that X does not see changed at P.
   pub above-same : {k X : ℕ} → Stays s s′ X → (Seen s′ k P X → f k ≡ nil) → above s′ X k ≡ above s X k
-  above-same {X = X} x none = above-same-along (way (c .tree) X (x .before)) x none
+  above-same {X = X} x none = above-same-along (path-up (c .tree) X (x .before)) x none
 
   -- P is not below itself
   pub place-sees-none : {k : ℕ} → Seen s′ k P P → f k ≡ nil

@@ -14,12 +14,11 @@ use Rattle.rules.specs.Event.{Event}
 use Rattle.rules.specs.Serial.Effect.{Effect}
 use Rattle.rules.specs.Serial.Block.{Block}
 use Rattle.rules.specs.Serial.Collect.{Known, collectFrom, unknown, storeBlock}
-use Rattle.rules.specs.Serial.Steps.{stepsOf}
+use Rattle.rules.specs.Serial.Schedule.{scheduleOf}
 use Rattle.rules.specs.Serial.Reach.{parentsAfter, isGivenTo, reachesStore, Act, actOf, actsOfR, actsIn, atPlace}
 use Rattle.rules.proofs.Laws.Tests.{cond-holds}
 use Rattle.rules.proofs.Serial.Acts.{store-steps-acts, none-before, none-behind, act-there, act-elsewhere}
-use Rattle.rules.proofs.Serial.Held.{heldAt, Held, none-at-first, none-held, known-after, parents-after}
-use Rattle.rules.proofs.Serial.Held.{held-after, none-after, own-held-after}
+use Rattle.rules.proofs.Serial.Held.{heldAt, Held, none-at-first, none-held, known-after, parents-after, held-after, none-after, own-held-after}
 
 -- after S the store's block has what is held, if it is the holder
 store-holds :
@@ -127,7 +126,7 @@ module _ (i : ℕ) where
 
 pub exact-acts :
     (es : List Event) (answers : List Answer) (i : ℕ) →
-    atPlace i (actsIn [] (stepsOf (storeBlock es answers))) ≡ atPlace i (actsOfR 0 (λ n. 0) es answers)
+    atPlace i (actsIn [] (scheduleOf (storeBlock es answers))) ≡ atPlace i (actsOfR 0 (λ n. 0) es answers)
 unfolding storeBlock unknown
 exact-acts es answers i =
     rw (store-steps-acts (storeBlock es answers)) (exact-from i 0 es answers unknown (omega arith) (none-at-first i))

@@ -1,23 +1,22 @@
--- The one block that an event changes: what was known of it before the event is known of it after.
--- No request is expected to touch this file.
+-- The one block that an event changes: what was known of it before the event is known of it after. Assumes nothing.
 use mathlib.Core.Path.{_≡_, refl, sym, _∙_, ap, ap₂}
 use mathlib.Core.Logic.{inl, inr}
 use Prim.Native.Nat.{ℕ}
 use Rattle.rules.specs.Serial.Block.{Block, empty, read, write, child}
 use Rattle.rules.proofs.Serial.Values.{Values}
 use Rattle.rules.proofs.Serial.Blocks.{only, own, after, good}
-use Rattle.rules.proofs.Serial.State.{State, Live, above, live-not-store}
+use Rattle.rules.proofs.Serial.AbstractState.{AbstractState, Live, above, live-not-store}
 use Rattle.rules.proofs.Serial.Change.{Stays, above-same, place-sees-none}
 use Rattle.rules.proofs.Serial.Events.{Noted, Start, Read, Write, Commit, stays, write-unseen}
 use Rattle.rules.proofs.Serial.Invariant.{Agrees, StoreSure, Sure, good-stays}
 
-module _ {Vs : Values} {s s′ : State Vs} {A : ℕ} (st : Start s s′ A) where
+module _ {Vs : Values} {s s′ : AbstractState Vs} {A : ℕ} (st : Start s s′ A) where
   pub start-sure : {got : ℕ → Vs .Val} {ok′ : Type 0} → Sure s′ got ok′ A empty
   unfolding own good
   start-sure = record { leaves = λ k. sym (st .started-empty k); fine = λ o ctx agrees. tt }
 
 -- Run in a context that agrees, a block shows an account whose read is noted as the state does.
-module _ {Vs : Values} (s s′ : State Vs) {got : ℕ → Vs .Val} {ok : Type 0} {A : ℕ} {d : Block (Vs .Eff)}
+module _ {Vs : Values} (s s′ : AbstractState Vs) {got : ℕ → Vs .Val} {ok : Type 0} {A : ℕ} {d : Block (Vs .Eff)}
     (sure : Sure s got ok A d) {ctx : ℕ → Vs .Val} (agrees : Agrees s′ A ctx) where
   open Values Vs using (over, over-hides)
 
@@ -26,7 +25,7 @@ module _ {Vs : Values} (s s′ : State Vs) {got : ℕ → Vs .Val} {ok : Type 0}
   noted-shows k (inr hidden) =
       ap (λ e. over e (ctx k)) (sure .leaves k) ∙ over-hides (s .eff A k) hidden (ctx k) (above s′ A k)
 
-module _ {Vs : Values} {s s′ : State Vs} {A k : ℕ} (r : Read s s′ A k) where
+module _ {Vs : Values} {s s′ : AbstractState Vs} {A k : ℕ} (r : Read s s′ A k) where
   reader-stays : Stays s s′ A
   reader-stays = stays (r .nobody-new) (r .reader-live)
 
@@ -49,7 +48,7 @@ module _ {Vs : Values} {s s′ : State Vs} {A k : ℕ} (r : Read s s′ A k) whe
         );
       }
 
-module _ {Vs : Values} {s s′ : State Vs} {A k : ℕ} {e : Vs .Eff} (w : Write s s′ A k e) where
+module _ {Vs : Values} {s s′ : AbstractState Vs} {A k : ℕ} {e : Vs .Eff} (w : Write s s′ A k e) where
   pub write-sure : {got : ℕ → Vs .Val} {ok ok′ : Type 0} {d : Block (Vs .Eff)} {i : ℕ}
       → (ok′ → ok) → Sure s got ok A d → Sure s′ got ok′ A (write d i k e)
   unfolding own good
@@ -60,7 +59,7 @@ module _ {Vs : Values} {s s′ : State Vs} {A k : ℕ} {e : Vs .Eff} (w : Write 
         fine = good-stays (w .change) a ok-before (λ o j has seen. absurd (write-unseen w A j seen)) sure;
       }
 
-module _ {Vs : Values} {s s′ : State Vs} {C P : ℕ} (c : Commit s s′ C P)
+module _ {Vs : Values} {s s′ : AbstractState Vs} {C P : ℕ} (c : Commit s s′ C P)
     {got : ℕ → Vs .Val} {okC : Type 0} {dC : Block (Vs .Eff)} (sureC : Sure s got okC C dC) where
   open Values Vs using (Val, Eff, lay, over, over-lay)
 

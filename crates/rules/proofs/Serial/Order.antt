@@ -13,8 +13,7 @@ use Rattle.rules.specs.declared.Answer.the-variants.{Started, Read, Writ
 use Rattle.rules.specs.Event.{Event}
 use Rattle.rules.specs.Serial.Effect.{Effect}
 use Rattle.rules.specs.Serial.Block.{Block, empty, read, write, child}
-use Rattle.rules.specs.Serial.Collect.{put, Known, laid, commitsAt, laidAll, stepped}
-use Rattle.rules.specs.Serial.Collect.{collectOne, collectFrom, unknown, storeBlock}
+use Rattle.rules.specs.Serial.Collect.{put, Known, laid, commitsAt, laidAll, stepped, collectOne, collectFrom, unknown, storeBlock}
 use Rattle.rules.specs.Serial.Reach.{inOrder}
 use Rattle.rules.proofs.Laws.Tests.{and-left, and-right, and-both}
 use Rattle.rules.proofs.Laws.Puts.{put-holds}

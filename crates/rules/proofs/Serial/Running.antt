@@ -1,12 +1,10 @@
--- The machine of the serial run, run over the steps of a block, does what `own` and `good` say of the block.
--- Request 2 touches what a read is given here; what its sums do to an account is for Settling. Assumes nothing.
+-- The machine of the serial run, given the schedule of a block, does what `own` and `good` say of the block. Assumes nothing.
 use Prim.Native.Nat.{ℕ}
 use mathlib.Core.Path.{_≡_, refl, sym, ap, ap₂, _∙_, subst⁻¹, fun-ext}
 use mathlib.Core.Logic.{⊎-elim}
 use mathlib.Core.Bool.{Bool, true, false, cond}
 use mathlib.Core.Option.{none}
-use mathlib.Core.List.{List, [], _∷_, _++_, append-nil, append-assoc}
-use mathlib.Core.List.{List·Memᴰ, List·Memᴰ·not-nil, List·Memᴰ·append-cases, List·Memᴰ·eq-of-singleton}
+use mathlib.Core.List.{List, [], _∷_, _++_, append-nil, append-assoc, List·Memᴰ, List·Memᴰ·not-nil, List·Memᴰ·append-cases, List·Memᴰ·eq-of-singleton}
 use lib.ListN.{length}
 use lib.Dec.{eqb}
 use borrow.Author.Tests.{eqb-true}
@@ -14,13 +12,12 @@ use Rattle.rules.specs.Card.{baseLength, basePlace, cardAt}
 use Rattle.rules.specs.Serial.Effect.{Effect, over, lay}
 use Rattle.rules.specs.Serial.Block.{Block, empty, read, write, child}
 use Rattle.rules.specs.Serial.Collect.{put}
-use Rattle.rules.specs.Serial.Steps.{Step, stepsOf}
-use Rattle.rules.specs.Serial.Machine.{Own, Given, Machine, shows, written, ended, turn, turns}
+use Rattle.rules.specs.Serial.Schedule.{Operation, scheduleOf}
+use Rattle.rules.specs.Serial.Machine.{Own, Given, Machine, shows, written, ended, perform, performAll}
 use Rattle.rules.proofs.Laws.Tests.{cond-holds}
 use Rattle.rules.proofs.Serial.Values.{cards, lay-none}
 use Rattle.rules.proofs.Serial.Blocks.{only, own, after, good}
-use Rattle.rules.proofs.Serial.Settling.{WholeOn, nothing, AllWhole, whole-laid}
-use Rattle.rules.proofs.Serial.Settling.{settled, settled-nothing, settled-length, settled-card, settled-laid}
+use Rattle.rules.proofs.Serial.Settling.{WholeOn, nothing, AllWhole, whole-laid, settled, settled-nothing, settled-length, settled-card, settled-laid}
 
 -- ---- what is asked of the store's block
 
@@ -86,10 +83,10 @@ abbrev inAction : List ℕ → List Own → Own → List Given → Machine
 inAction base above own given = record { base = base; underWay = own ∷ above; given = given }
 
 -- the steps ys come after the steps xs
-turns-after : (m : Machine) (xs ys : List (Step Effect)) {m′ : Machine} → turns m xs ≡ m′ → turns m (xs ++ ys) ≡ turns m′ ys
-unfolding turns
-turns-after m [] ys e = ap (λ n. turns n ys) e
-turns-after m (x ∷ xs) ys e = turns-after (turn m x) xs ys e
+performAll-after : (m : Machine) (xs ys : List (Operation Effect)) {m′ : Machine} → performAll m xs ≡ m′ → performAll m (xs ++ ys) ≡ performAll m′ ys
+unfolding performAll
+performAll-after m [] ys e = ap (λ n. performAll n ys) e
+performAll-after m (x ∷ xs) ys e = performAll-after (perform m x) xs ys e
 
 -- the machine's write, as `own` has it
 put-laid : (before : Own) (k : ℕ) (f : Effect) → put before k (lay f (before k)) ≡ (λ j. lay (only cards k f j) (before j))
@@ -102,21 +99,21 @@ put-laid before k f = fun-ext (λ j. by-account j (eqb j k) refl)
     by-account j false other = sym (lay-none (before j))
 
 -- A block, run in an action that has no own cards yet.
-block-turns :
+block-performed :
     (d : Block Effect) (base : List ℕ) (above : List Own) (given : List Given) →
-    turns (inAction base above (λ k. none) given) (stepsOf d)
+    performAll (inAction base above (λ k. none) given) (scheduleOf d)
     ≡ inAction base above (own cards d) (given ++ givenIn d (shows base above))
-unfolding turns turn stepsOf own givenIn shows written ended
-block-turns empty base above given = ap (inAction base above (λ k. none)) (sym (append-nil given))
-block-turns (read b i k) base above given =
-    turns-after _ (stepsOf b) _ (block-turns b base above given)
+unfolding performAll perform scheduleOf own givenIn shows written ended
+block-performed empty base above given = ap (inAction base above (λ k. none)) (sym (append-nil given))
+block-performed (read b i k) base above given =
+    performAll-after _ (scheduleOf b) _ (block-performed b base above given)
     ∙ ap (inAction base above (own cards b)) (append-assoc given _ _)
-block-turns (write b i k f) base above given =
-    turns-after _ (stepsOf b) _ (block-turns b base above given)
+block-performed (write b i k f) base above given =
+    performAll-after _ (scheduleOf b) _ (block-performed b base above given)
     ∙ ap (λ now. inAction base above now (given ++ givenIn b (shows base above))) (put-laid (own cards b) k f)
-block-turns (child b i who d) base above given =
-    turns-after _ (stepsOf b) _ (block-turns b base above given)
-    ∙ turns-after _ (stepsOf d) _ (block-turns d base (own cards b ∷ above) (given ++ givenIn b (shows base above)))
+block-performed (child b i who d) base above given =
+    performAll-after _ (scheduleOf b) _ (block-performed b base above given)
+    ∙ performAll-after _ (scheduleOf d) _ (block-performed d base (own cards b ∷ above) (given ++ givenIn b (shows base above)))
     ∙ ap (inAction base above (own cards (child b i who d))) (append-assoc given _ _)
 
 -- ---- the machine at the store
@@ -133,22 +130,22 @@ unfolding shows
 child-begins opening long b whole = fun-ext (settled-card (own-whole b whole) opening long)
 
 -- The store's block, run from the opening store.
-store-turns :
+store-performed :
     (opening : List ℕ) → length opening ≡ baseLength → (d : Block Effect) → Whole d → OnlyChildren d →
-    turns (atStore opening []) (stepsOf d) ≡ atStore (settled (own cards d) opening) (givenIn d (shows opening []))
-unfolding turns turn stepsOf own givenIn shows ended Whole OnlyChildren
-store-turns opening long empty whole top = ap (λ now. atStore now []) (sym (settled-nothing opening))
-store-turns opening long (read b i k) whole top = absurd top
-store-turns opening long (write b i k f) whole top = absurd top
-store-turns opening long (child b i who d) whole top =
+    performAll (atStore opening []) (scheduleOf d) ≡ atStore (settled (own cards d) opening) (givenIn d (shows opening []))
+unfolding performAll perform scheduleOf own givenIn shows ended Whole OnlyChildren
+store-performed opening long empty whole top = ap (λ now. atStore now []) (sym (settled-nothing opening))
+store-performed opening long (read b i k) whole top = absurd top
+store-performed opening long (write b i k f) whole top = absurd top
+store-performed opening long (child b i who d) whole top =
     let given = givenIn b (shows opening []) in
     let both-settled = settled-laid (own-whole d (whole .1)) (own-whole b (whole .0)) opening long in
-    turns-after _ (stepsOf b) _ (store-turns opening long b (whole .0) top)
-    ∙ turns-after _ (stepsOf d) _ (block-turns d (settled (own cards b) opening) [] given)
+    performAll-after _ (scheduleOf b) _ (store-performed opening long b (whole .0) top)
+    ∙ performAll-after _ (scheduleOf d) _ (block-performed d (settled (own cards b) opening) [] given)
     ∙ ap₂ atStore both-settled (ap (λ ctx. given ++ givenIn d ctx) (child-begins opening long b (whole .0)))
 
 -- What is known of the machine m that has run over the store's block d, from the opening store.
-pub record Ran (got : ℕ → List ℕ) (d : Block Effect) (opening : List ℕ) (m : Machine) : Type 0 where
+pub record SerialRun (got : ℕ → List ℕ) (d : Block Effect) (opening : List ℕ) (m : Machine) : Type 0 where
   -- every read is given what got has for its place
   pub reads : (g : Given) → List·Memᴰ g (m .given) → g .card ≡ got (g .place)
   pub long : length (m .base) ≡ baseLength
@@ -158,10 +155,10 @@ pub record Ran (got : ℕ → List ℕ) (d : Block Effect) (opening : List ℕ) 
 pub block-runs :
     (got : ℕ → List ℕ) (d : Block Effect) → Whole d → OnlyChildren d →
     (opening : List ℕ) → length opening ≡ baseLength → good cards got d (λ k. cardAt opening (basePlace k)) →
-    Ran got d opening (turns (record { base = opening; underWay = []; given = [] }) (stepsOf d))
+    SerialRun got d opening (performAll (record { base = opening; underWay = []; given = [] }) (scheduleOf d))
 unfolding shows
 block-runs got d whole top opening long fine =
-    rw (store-turns opening long d whole top)
+    rw (store-performed opening long d whole top)
     (record {
       reads = good-right got d (shows opening []) fine;
       long = settled-length (own-whole d whole) opening long;

@@ -1,5 +1,4 @@
--- A topaction's own cards settled in the base store: what every account shows then.
--- Request 2 touches this file: a sum is then settled too. Assumes nothing.
+-- A topaction's own cards settled in the base store: what every account shows then. Assumes nothing.
 use Prim.Native.Nat.{ℕ, _<_}
 use native.Mathlib.Omega.{arith}
 use native.Mathlib.Decide.{decLt}
@@ -8,11 +7,11 @@ use mathlib.Core.Logic.{_≢_}
 use mathlib.Core.Option.{none, some}
 use mathlib.Core.List.{List}
 use lib.ListN.{length}
-use Rattle.rules.specs.Range.{each}
+use Rattle.rules.specs.Range.{fold}
 use Rattle.rules.specs.Card.{accountCount, accounts, cardLength, baseLength, basePlace, cardAt}
 use Rattle.rules.specs.Serial.Effect.{Effect, over, lay}
 use Rattle.rules.specs.Serial.Machine.{Own, settle}
-use Rattle.rules.proofs.Laws.Ranges.{each-keeps, each-changes}
+use Rattle.rules.proofs.Laws.Ranges.{fold-keeps, fold-changes}
 use Rattle.rules.proofs.Laws.Sets.{account-within}
 use Rattle.rules.proofs.Laws.Cards.{withCard-length, cardAt-same, cardAt-apart}
 use Rattle.rules.proofs.Stores.Copies.{base-line, line-fits, line-apart}
@@ -66,23 +65,23 @@ module _ (base : List ℕ) (long : length base ≡ baseLength) where
 -- ---- all accounts settled
 
 abbrev pub settled : Own → List ℕ → List ℕ
-settled own base = each (λ k now. settle (own k) k now) accounts base
+settled own base = fold (λ k now. settle (own k) k now) accounts base
 
 pub settled-nothing : (base : List ℕ) → settled (λ k. none) base ≡ base
 unfolding accounts settle
-settled-nothing base = each-keeps (λ now. now ≡ base) _ 0 accountCount (λ k h now same. same) base refl
+settled-nothing base = fold-keeps (λ now. now ≡ base) _ 0 accountCount (λ k h now same. same) base refl
 
 module _ {own : Own} (whole : AllWhole own) (base : List ℕ) (long : length base ≡ baseLength) where
   pub settled-length : length (settled own base) ≡ baseLength
   unfolding accounts
   settled-length =
-      each-keeps (λ now. length now ≡ baseLength) _ 0 accountCount (λ k h now e. settle-length now e (whole k)) base long
+      fold-keeps (λ now. length now ≡ baseLength) _ 0 accountCount (λ k h now e. settle-length now e (whole k)) base long
 
   settled-account :
       (k : ℕ) → k < accountCount → cardAt (settled own base) (basePlace k) ≡ over (own k) (cardAt base (basePlace k))
   unfolding accounts
   settled-account k h =
-      each-changes (λ now. length now ≡ baseLength) (λ now. cardAt now (basePlace k)) (over (own k)) _ 0 accountCount k
+      fold-changes (λ now. length now ≡ baseLength) (λ now. cardAt now (basePlace k)) (over (own k)) _ 0 accountCount k
       (λ j r now e. settle-length now e (whole j))
       (λ now e. settle-same now e (whole k))
       (λ j r ne now e. settle-other now e (whole j) k h ne)

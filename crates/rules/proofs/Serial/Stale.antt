@@ -1,18 +1,17 @@
--- The backward rule is a Rule, whatever it is that makes a read stale. No arithmetic: times stay outside.
--- Requests 7, 8 and 9 change what makes a read stale, and so why the facts asked for here hold; this file stays.
+-- The backward rule is a Rule, whatever it is that makes a read stale. No arithmetic: times stay outside. Assumes nothing.
 use mathlib.Core.Path.{_≡_}
 use mathlib.Core.Bool.{false}
 use mathlib.Core.Logic.{_⊎_, inl, inr}
 use Prim.Native.Nat.{ℕ}
 use Rattle.rules.proofs.Serial.Values.{Values}
-use Rattle.rules.proofs.Serial.State.{State, Live, HasRead, Seen, seen-live, seen-cases, live-not-store}
+use Rattle.rules.proofs.Serial.AbstractState.{AbstractState, Live, HasRead, Seen, seen-live, seen-cases, live-not-store}
 use Rattle.rules.proofs.Serial.Change.{Stays, Change, Undisturbed, seen-stays, place-sees-none}
 use Rattle.rules.proofs.Serial.Events.{Commit, Calm, read-passed-up}
-use Rattle.rules.proofs.Serial.Steps.{OkBefore, Judged}
+use Rattle.rules.proofs.Serial.Preservation.{OkBefore, CommitObligations}
 use Rattle.rules.proofs.Serial.Rule.{Rule}
 
 -- stale X Q k: since X read k, a child of Q has committed with an effect on k.
-module _ {Vs : Values} (s : State Vs) (stale : ℕ → ℕ → ℕ → Type 0) where
+module _ {Vs : Values} (s : AbstractState Vs) (stale : ℕ → ℕ → ℕ → Type 0) where
   -- None of B's reads is stale at anybody through whom B sees the account.
   abbrev pub Fine : ℕ → Type 0
   Fine B = (k Q : ℕ) → HasRead s B k → Seen s k Q B → stale B Q k → ⊥
@@ -21,7 +20,7 @@ module _ {Vs : Values} (s : State Vs) (stale : ℕ → ℕ → ℕ → Type 0) w
   abbrev pub Passes : ℕ → Type 0
   Passes C = (k : ℕ) → HasRead s C k → stale C (s .parent C) k → ⊥
 
-module _ {Vs : Values} (s s′ : State Vs) (stale stale′ : ℕ → ℕ → ℕ → Type 0) where
+module _ {Vs : Values} (s s′ : AbstractState Vs) (stale stale′ : ℕ → ℕ → ℕ → Type 0) where
   open Values Vs using (Eff, nil, hides)
 
   -- A stale read stays stale as far as it is seen: what makes a read stale that nobody sees may be forgotten.
@@ -71,7 +70,7 @@ module _ {Vs : Values} (s s′ : State Vs) (stale stale′ : ℕ → ℕ → ℕ
         fine′ k Q (read-passed-up c k lP′ has shown) (seen-stays (c .change) p (place-sees-none (c .change)) seen)
         (facts .join Q k lP′ has shown seen st))
 
-    pub stale-judged : Judged s s′ (Fine s stale) (Fine s′ stale′) C P
+    pub stale-judged : CommitObligations s s′ (Fine s stale) (Fine s′ stale′) C P
     stale-judged =
         record {
           ok-before = λ B x fine′. fine-before (c .change) (facts .old) x (commit-undisturbed B x fine′) fine′;
@@ -80,13 +79,13 @@ module _ {Vs : Values} (s s′ : State Vs) (stale stale′ : ℕ → ℕ → ℕ
           undisturbed = commit-undisturbed;
         }
 
-abbrev pub stale-rule : {Vs : Values} {M : Type 0} (see : M → State Vs) (stale : M → ℕ → ℕ → ℕ → Type 0) → Rule see
-stale-rule see stale =
+abbrev pub stale-rule : {Vs : Values} {M : Type 0} (abstraction : M → AbstractState Vs) (stale : M → ℕ → ℕ → ℕ → Type 0) → Rule abstraction
+stale-rule abstraction stale =
     record {
-      ok = λ m. Fine (see m) (stale m);
-      pass = λ m. Passes (see m) (stale m);
-      CommitFacts = λ m m′. AtCommit (see m) (see m′) (stale m) (stale m′);
-      CalmFacts = λ m m′. Old (see m) (see m′) (stale m) (stale m′);
-      judged = λ m m′ C P. stale-judged (see m) (see m′) (stale m) (stale m′);
-      calm = λ m m′. stale-calm (see m) (see m′) (stale m) (stale m′);
+      ok = λ m. Fine (abstraction m) (stale m);
+      pass = λ m. Passes (abstraction m) (stale m);
+      CommitFacts = λ m m′. AtCommit (abstraction m) (abstraction m′) (stale m) (stale m′);
+      CalmFacts = λ m m′. Old (abstraction m) (abstraction m′) (stale m) (stale m′);
+      obligations = λ m m′ C P. stale-judged (abstraction m) (abstraction m′) (stale m) (stale m′);
+      calm = λ m m′. stale-calm (abstraction m) (abstraction m′) (stale m) (stale m′);
     }

@@ -1,5 +1,4 @@
--- What an account shows and what an action has done to it, known by their laws alone.
--- Request 2 touches this file and no other of Serial: an effect may then also add.
+-- What an account shows and what an action has done to it, known by their laws alone. Assumes nothing.
 use mathlib.Core.Path.{_≡_, refl}
 use mathlib.Core.Bool.{Bool, true, false, false≢true}
 use mathlib.Core.Option.{none, some}

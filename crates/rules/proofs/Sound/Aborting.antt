@@ -13,14 +13,15 @@ use lib.ListN.{length}
 use Rattle.rules.specs.declared.Answer.the-variants.{Aborted}
 use Rattle.rules.specs.Range.{count}
 use Rattle.rules.specs.Card.{accountCount}
-use Rattle.rules.specs.Table.{hasEnd, width, tableLength, live, committed, aborted, word, started, counter, parentOf, stateOf, withState, readField, readEntry, hasRead, readTime, writeField, isLive, isCommitted, actions}
+use Rattle.rules.specs.Table.{hasEnd, width, tableLength, live, committed, aborted, word, startedField, started, counterField, counter, parentField, parentOf, stateField, stateOf, withState, endField, readField, readEntry, hasRead, readTime, writeField, isLive, isCommitted, actions}
 use Rattle.rules.specs.Walk.{isAtOrBelow}
 use Rattle.rules.specs.Sound.{hasState, IsStarted, Sound}
-use Rattle.rules.specs.Step.{State, isAbortedBy, abortTable, abort}
+use Rattle.rules.specs.Ledger.{Ledger}
+use Rattle.rules.specs.Step.{isAbortedBy, abortTable, abort}
 use Rattle.rules.proofs.Laws.Tests.{and-left, and-right, and-both, not-both, cond-holds}
-use Rattle.rules.proofs.Laws.Ranges.{count-some, any-at, count-agree, each-keeps, each-puts}
+use Rattle.rules.proofs.Laws.Ranges.{count-some, any-at, count-agree, fold-keeps, fold-puts}
 use Rattle.rules.proofs.Laws.Words.{withWord-length, word-same, word-other-row, word-off-field}
-use Rattle.rules.proofs.Sound.Changes.{Change, writes-agree}
+use Rattle.rules.proofs.Sound.TableChanges.{TableChange, writes-agree}
 use Rattle.rules.proofs.Laws.Walking.{atOrBelow-itself, notBelow-parent}
 
 -- ---- the table after an abort of n
@@ -45,22 +46,22 @@ module _ (w : List ℕ) (n : ℕ) where
       P w → P (abortTable w n)
   unfolding abortTable actions mark
   abort-keeps P keeps =
-      each-keeps P mark 1 (started w) (λ m h v. mark-keeps P m v (λ q. keeps m (omega arith) q v)) w
+      fold-keeps P mark 1 (started w) (λ m h v. mark-keeps P m v (λ q. keeps m (omega arith) q v)) w
 
   pub abort-length : length (abortTable w n) ≡ length w
   abort-length = abort-keeps (λ v. length v ≡ length w) (λ m h q v e. withWord-length v m _ _ ∙ e) refl
 
   -- every field but the states
-  pub abort-keeps-field : (m g : ℕ) → g < width → g ≢ 1 → word (abortTable w n) m g ≡ word w m g
+  pub abort-keeps-field : (m g : ℕ) → g < width → g ≢ stateField → word (abortTable w n) m g ≡ word w m g
   abort-keeps-field m g hg ne =
-      abort-keeps (λ v. word v m g ≡ word w m g) (λ x h q v e. word-off-field v x m 1 g _ (omega arith) hg ne ∙ e) refl
+      abort-keeps (λ v. word v m g ≡ word w m g) (λ x h q v e. word-off-field v x m stateField g _ (omega arith) hg ne ∙ e) refl
 
   -- every row that is not reached: the head's, those above the last start, and those of the other actions
   pub abort-keeps-row :
       (m g : ℕ) → g < width → (IsStarted w m → isAbortedBy w n m ≡ true → ⊥) → word (abortTable w n) m g ≡ word w m g
   abort-keeps-row m g hg unreached =
       abort-keeps (λ v. word v m g ≡ word w m g)
-      (λ x h q v e. word-other-row v x m 1 g _ (omega arith) hg (λ same. unreached (rw same h) (rw same q)) ∙ e)
+      (λ x h q v e. word-other-row v x m stateField g _ (omega arith) hg (λ same. unreached (rw same h) (rw same q)) ∙ e)
       refl
 
   module _ (s : Sound w) where
@@ -68,19 +69,19 @@ module _ (w : List ℕ) (n : ℕ) where
     reached-aborted : (m : ℕ) → IsStarted w m → isAbortedBy w n m ≡ true → stateOf (abortTable w n) m ≡ aborted
     unfolding abortTable actions mark
     reached-aborted m h q =
-        each-puts (λ v. length v ≡ tableLength) (λ v. stateOf v m) aborted mark 1 (started w) m
+        fold-puts (λ v. length v ≡ tableLength) (λ v. stateOf v m) aborted mark 1 (started w) m
         (λ x r v. mark-keeps (λ u. length u ≡ tableLength) x v (λ _ e. withWord-length v x _ _ ∙ e))
-        (λ v e. rw q (word-same v m 1 _ e (omega arith) (omega arith)))
+        (λ v e. rw q (word-same v m stateField _ e (omega arith) (omega arith)))
         (λ x r ne v.
         mark-keeps (λ u. stateOf u m ≡ stateOf v m) x v
-        (λ _ e. word-other-row v x m 1 1 _ (omega arith) (omega arith) (λ same. ne (sym same))) refl)
+        (λ _ e. word-other-row v x m stateField stateField _ (omega arith) (omega arith) (λ same. ne (sym same))) refl)
         (omega arith) w (s .long)
 
     pub abort-state : (m : ℕ) → IsStarted w m → stateOf (abortTable w n) m ≡ cond (isAbortedBy w n m) aborted (stateOf w m)
     abort-state m h =
         cond-holds (λ x. stateOf (abortTable w n) m ≡ x) (isAbortedBy w n m)
         (reached-aborted m h)
-        (λ q. abort-keeps-row m 1 (omega arith) (λ _ r. not-both r q))
+        (λ q. abort-keeps-row m stateField (omega arith) (λ _ r. not-both r q))
 
     -- an action is live afterwards where it was and is not at or below n
     pub abort-live : (m : ℕ) → IsStarted w m → isLive (abortTable w n) m ≡ (isLive w m && not (isAtOrBelow w n m))
@@ -94,10 +95,10 @@ module _ (w : List ℕ) (n : ℕ) where
     -- ---- it keeps the table sound
 
     started-kept : started (abortTable w n) ≡ started w
-    started-kept = abort-keeps-field 0 0 (omega arith) (λ z. omega arith)
+    started-kept = abort-keeps-field 0 startedField (omega arith) (λ z. omega arith)
 
     counter-kept : counter (abortTable w n) ≡ counter w
-    counter-kept = abort-keeps-row 0 1 (omega arith) (λ h _. omega arith)
+    counter-kept = abort-keeps-row 0 counterField (omega arith) (λ h _. omega arith)
 
     state-valid : (m : ℕ) → IsStarted w m → hasState (abortTable w n) m ≡ true
     state-valid m h =
@@ -140,7 +141,7 @@ module _ (w : List ℕ) (n : ℕ) where
         let entry : readEntry (abortTable w n) m k ≡ readEntry w m k = abort-keeps-field m (readField k) (omega arith) (λ z. omega arith) in
         rw (entry, counter-kept) (s .reads m k h (was-live m h l) hk (rw entry at r))
 
-    pub abort-change : Change w (abortTable w n) n
+    pub abort-change : TableChange w (abortTable w n) n
     abort-change =
         record {
           long = abort-length ∙ s .long;
@@ -148,14 +149,14 @@ module _ (w : List ℕ) (n : ℕ) where
           rising = le-of-eq (sym counter-kept);
           counted = rw (counter-kept, count-kept) (s .counted);
           states = state-valid;
-          parents = λ m h. abort-keeps-field m 0 (omega arith) (λ z. omega arith);
+          parents = λ m h. abort-keeps-field m parentField (omega arith) (λ z. omega arith);
           wasLive = was-live;
           parentStays = parent-left;
           reads = reads-kept;
-          ends = λ m h e. inl (sym (end-kept m h) ∙ e, abort-keeps-field m 2 (omega arith) (λ z. omega arith));
+          ends = λ m h e. inl (sym (end-kept m h) ∙ e, abort-keeps-field m endField (omega arith) (λ z. omega arith));
         }
 
-    -- ---- "Answer: aborted, how many became so."
+    -- ---- RULES 2.6: the count of the answer
 
     -- n is one of them
     pub abort-counts-itself : IsStarted w n → isLive w n ≡ true → 1 ≤ count (isAbortedBy w n) (actions w)
@@ -174,7 +175,7 @@ module _ (w : List ℕ) (n : ℕ) where
 
 -- the answer's number is that of the actions which were live and are aborted afterwards
 pub abort-counts :
-    (s : State) (n : ℕ) → Sound (s .table) →
+    (s : Ledger) (n : ℕ) → Sound (s .table) →
     (abort s n) .answer ≡ Aborted (count (becameAborted (s .table) ((abort s n) .after .table)) (actions (s .table)))
 unfolding abort actions
 abort-counts s n sound =

@@ -4,13 +4,13 @@ use native.Mathlib.Omega.{arith}
 use native.Mathlib.Decide.{ℕ-discrete}
 use mathlib.Core.Path.{_≡_, refl, ap, ap₂, _∙_}
 use mathlib.Core.Logic.{_⊎_, inl, inr, _≢_}
-use mathlib.Core.Bool.{not, cond}
+use mathlib.Core.Bool.{false, not, cond}
 use mathlib.Core.List.{List}
 use borrow.Author.Tests.{eq-eqb, ne-eqb}
 use lib.Dec.{eqb}
 use lib.ListN.{length}
 use Rattle.rules.specs.Card.{accountCount}
-use Rattle.rules.specs.Table.{width, tableLength, mostActions, committed, word, started, counter, withCounter, parentOf, stateOf, withState, endTime, withEndTime, readField, readEntry, writeField, writeEntry, hasWritten}
+use Rattle.rules.specs.Table.{width, tableLength, mostActions, committed, word, startedField, started, counterField, counter, withCounter, parentField, parentOf, stateField, stateOf, withState, endField, endTime, withEndTime, readFields, readField, readEntry, writeField, writeEntry, entered, hasWritten, hasWrites}
 use Rattle.rules.specs.Step.{commitTime, commitCounter, joinedRead, joinTable, commitTable}
 use Rattle.rules.proofs.Laws.Words.{withWord-length, word-same, word-other-row, word-other-field, word-off-field}
 use Rattle.rules.proofs.Laws.Sets.{withSets-length, withSets-other-row, withSets-other-field, withSets-read, withSets-write}
@@ -27,28 +27,28 @@ module _ (w : List ℕ) (n p : ℕ) (one : 1 ≤ n) where
   ended = withCounter timed (commitCounter w n)
 
   ended-length : length ended ≡ length w
-  ended-length = withWord-length timed 0 1 _ ∙ withWord-length stated n 2 _ ∙ withWord-length w n 1 _
+  ended-length = withWord-length timed 0 counterField _ ∙ withWord-length stated n endField _ ∙ withWord-length w n stateField _
 
-  -- fields that are neither a state nor an end time, and the rows of others
-  ended-keeps-field : (m g : ℕ) → g < width → g ≢ 1 → g ≢ 2 → word ended m g ≡ word w m g
+  -- fields that are neither a state nor an end time, and the rows of others; the counter's field has a state's number
+  ended-keeps-field : (m g : ℕ) → g < width → g ≢ stateField → g ≢ endField → word ended m g ≡ word w m g
   ended-keeps-field m g h ns nt =
-      word-off-field timed 0 m 1 g _ (omega arith) h ns
-      ∙ word-off-field stated n m 2 g _ (omega arith) h nt
-      ∙ word-off-field w n m 1 g _ (omega arith) h ns
+      word-off-field timed 0 m counterField g _ (omega arith) h ns
+      ∙ word-off-field stated n m endField g _ (omega arith) h nt
+      ∙ word-off-field w n m stateField g _ (omega arith) h ns
 
   ended-keeps-row : (m g : ℕ) → g < width → 1 ≤ m → m ≢ n → word ended m g ≡ word w m g
   ended-keeps-row m g h pos ne =
-      word-other-row timed 0 m 1 g _ (omega arith) h (λ z. omega arith)
-      ∙ word-other-row stated n m 2 g _ (omega arith) h ne
-      ∙ word-other-row w n m 1 g _ (omega arith) h ne
+      word-other-row timed 0 m counterField g _ (omega arith) h (λ z. omega arith)
+      ∙ word-other-row stated n m endField g _ (omega arith) h ne
+      ∙ word-other-row w n m stateField g _ (omega arith) h ne
 
   -- what the join changes: the read and write entries of a parent that is an action
   joined-elsewhere :
-      (m g : ℕ) → g < width → (m ≢ p) ⊎ (g < 3) → word (commitTable w n p) m g ≡ word ended m g
+      (m g : ℕ) → g < width → (m ≢ p) ⊎ (g < readFields) → word (commitTable w n p) m g ≡ word ended m g
   unfolding commitTable joinTable
   joined-elsewhere m g h where′ = go (ℕ-discrete p 0)
     where
-      apart : (m ≢ p) ⊎ (g < 3) → Dec (m ≡ p) → word (joinTable ended n p) m g ≡ word ended m g
+      apart : (m ≢ p) ⊎ (g < readFields) → Dec (m ≡ p) → word (joinTable ended n p) m g ≡ word ended m g
       apart (inl ne) d = withSets-other-row ended p _ _ m g h ne
       apart (inr low) (yes e) = rw e (withSets-other-field ended p _ _ g low)
       apart (inr low) (no ne) = withSets-other-row ended p _ _ m g h ne
@@ -66,45 +66,45 @@ module _ (w : List ℕ) (n p : ℕ) (one : 1 ≤ n) where
       go (no ne) = rw (ne-eqb p 0 ne) (withSets-length ended p _ _ ∙ ended-length)
 
   pub commit-started : started (commitTable w n p) ≡ started w
-  commit-started = joined-elsewhere 0 0 (omega arith) (inr (omega arith)) ∙ ended-keeps-field 0 0 (omega arith) (λ z. omega arith) (λ z. omega arith)
+  commit-started = joined-elsewhere 0 startedField (omega arith) (inr (omega arith)) ∙ ended-keeps-field 0 startedField (omega arith) (λ z. omega arith) (λ z. omega arith)
 
   pub commit-parent : (m : ℕ) → parentOf (commitTable w n p) m ≡ parentOf w m
-  commit-parent m = joined-elsewhere m 0 (omega arith) (inr (omega arith)) ∙ ended-keeps-field m 0 (omega arith) (λ z. omega arith) (λ z. omega arith)
+  commit-parent m = joined-elsewhere m parentField (omega arith) (inr (omega arith)) ∙ ended-keeps-field m parentField (omega arith) (λ z. omega arith) (λ z. omega arith)
 
   -- an action that is neither the one that commits nor its parent keeps its row; the parent keeps its parent, state and end time
-  pub commit-keeps-row : (m g : ℕ) → g < width → 1 ≤ m → m ≢ n → (m ≢ p) ⊎ (g < 3) → word (commitTable w n p) m g ≡ word w m g
+  pub commit-keeps-row : (m g : ℕ) → g < width → 1 ≤ m → m ≢ n → (m ≢ p) ⊎ (g < readFields) → word (commitTable w n p) m g ≡ word w m g
   commit-keeps-row m g h pos ne apart = joined-elsewhere m g h apart ∙ ended-keeps-row m g h pos ne
 
   -- the one that commits keeps its sets
-  pub commit-keeps-sets : n ≢ p → (g : ℕ) → 3 ≤ g → g < width → word (commitTable w n p) n g ≡ word w n g
+  pub commit-keeps-sets : n ≢ p → (g : ℕ) → readFields ≤ g → g < width → word (commitTable w n p) n g ≡ word w n g
   commit-keeps-sets ne g high h =
       joined-elsewhere n g h (inl ne) ∙ ended-keeps-field n g h (λ z. omega arith) (λ z. omega arith)
 
   module _ (long : length w ≡ tableLength) (few : n ≤ mostActions) where
     stated-long : length stated ≡ tableLength
-    stated-long = withWord-length w n 1 _ ∙ long
+    stated-long = withWord-length w n stateField _ ∙ long
 
     timed-long : length timed ≡ tableLength
-    timed-long = withWord-length stated n 2 _ ∙ stated-long
+    timed-long = withWord-length stated n endField _ ∙ stated-long
 
     ended-long : length ended ≡ tableLength
     ended-long = ended-length ∙ long
 
     pub commit-counter : counter (commitTable w n p) ≡ commitCounter w n
-    commit-counter = joined-elsewhere 0 1 (omega arith) (inr (omega arith)) ∙ word-same timed 0 1 _ timed-long (omega arith) (omega arith)
+    commit-counter = joined-elsewhere 0 counterField (omega arith) (inr (omega arith)) ∙ word-same timed 0 counterField _ timed-long (omega arith) (omega arith)
 
     pub commit-state : stateOf (commitTable w n p) n ≡ committed
     commit-state =
-        joined-elsewhere n 1 (omega arith) (inr (omega arith))
-        ∙ word-other-row timed 0 n 1 1 _ (omega arith) (omega arith) (λ z. omega arith)
-        ∙ word-other-field stated n 2 1 _ (λ z. omega arith)
-        ∙ word-same w n 1 committed long few (omega arith)
+        joined-elsewhere n stateField (omega arith) (inr (omega arith))
+        ∙ word-other-row timed 0 n counterField stateField _ (omega arith) (omega arith) (λ z. omega arith)
+        ∙ word-other-field stated n endField stateField _ (λ z. omega arith)
+        ∙ word-same w n stateField committed long few (omega arith)
 
     pub commit-end : endTime (commitTable w n p) n ≡ commitTime w n
     commit-end =
-        joined-elsewhere n 2 (omega arith) (inr (omega arith))
-        ∙ word-other-row timed 0 n 1 2 _ (omega arith) (omega arith) (λ z. omega arith)
-        ∙ word-same stated n 2 _ stated-long few (omega arith)
+        joined-elsewhere n endField (omega arith) (inr (omega arith))
+        ∙ word-other-row timed 0 n counterField endField _ (omega arith) (omega arith) (λ z. omega arith)
+        ∙ word-same stated n endField _ stated-long few (omega arith)
 
     -- a parent that is an action gets both unions
     module _ (action : 1 ≤ p) (low : p ≤ mostActions) where
@@ -123,11 +123,16 @@ module _ (w : List ℕ) (n p : ℕ) (one : 1 ≤ n) where
           (ended-keeps-field p (readField k) (omega arith) (λ z. omega arith) (λ z. omega arith))
 
       pub commit-write :
-          (k : ℕ) → k < accountCount → writeEntry (commitTable w n p) p k ≡ cond (hasWritten w n k) 1 (writeEntry w p k)
+          (k : ℕ) → k < accountCount → writeEntry (commitTable w n p) p k ≡ cond (hasWritten w n k) entered (writeEntry w p k)
       unfolding joinTable
       commit-write k hk =
           ap (λ t. writeEntry t p k) joined
           ∙ withSets-write ended p _ _ ended-long low k hk
-          ∙ ap₂ (λ x y. cond (not (eqb x 0)) 1 y)
+          ∙ ap₂ (λ x y. cond (not (eqb x 0)) entered y)
           (ended-keeps-field n (writeField k) (omega arith) (λ z. omega arith) (λ z. omega arith))
           (ended-keeps-field p (writeField k) (omega arith) (λ z. omega arith) (λ z. omega arith))
+
+-- a commit that wrote nothing has end time 0 and leaves the counter
+pub unwritten-uncounted : (w : List ℕ) (n : ℕ) → hasWrites w n ≡ false → (commitTime w n ≡ 0) × (commitCounter w n ≡ counter w)
+unfolding commitTime commitCounter
+unwritten-uncounted w n nothing = rw nothing (refl, refl)

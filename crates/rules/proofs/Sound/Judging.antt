@@ -11,17 +11,17 @@ use borrow.Author.Tests.{eqb-true, eqb-false, eq-eqb, ne-eqb, not-true}
 use lib.Dec.{eqb}
 use Rattle.rules.specs.Range.{count}
 use Rattle.rules.specs.Card.{accountCount}
-use Rattle.rules.specs.Table.{hasEnd, width, mostActions, live, committed, aborted, word, started, counter, parentOf, stateOf, withState, endTime, readField, readEntry, hasRead, readTime, writeField, hasWrites, isLive, isCommitted, isLiveChildOf, hasLiveChild, actions}
+use Rattle.rules.specs.Table.{hasEnd, width, mostActions, live, committed, aborted, word, startedField, started, counterField, counter, parentField, parentOf, stateField, stateOf, withState, endField, endTime, readField, readEntry, hasRead, readTime, writeField, hasWrites, isLive, isCommitted, isLiveChildOf, hasLiveChild, actions}
 use Rattle.rules.specs.Sound.{hasState, IsStarted, Sound}
 use Rattle.rules.specs.Step.{commitTime, commitCounter, joinedRead, commitTable}
 use Rattle.rules.proofs.Laws.Tests.{and-left, and-right, and-both, not-both, test, false-of-not-true}
 use Rattle.rules.proofs.Laws.Ranges.{not-any-at, count-agree, count-one-more}
 use Rattle.rules.proofs.Laws.Words.{withWord-length, word-same, word-other-row, word-off-field}
-use Rattle.rules.proofs.Sound.Changes.{Change, Ended, writes-agree, live-uncommitted}
+use Rattle.rules.proofs.Sound.TableChanges.{TableChange, Ended, writes-agree, live-uncommitted}
 use Rattle.rules.proofs.Sound.Committing.{commit-length, commit-started, commit-parent, commit-keeps-row, commit-keeps-sets, commit-counter, commit-state, commit-end, commit-read}
 
 -- an action that may be judged: it is live and has no live child
-pub record Judged (w : List ℕ) (n : ℕ) : Type 0 where
+pub record Committable (w : List ℕ) (n : ℕ) : Type 0 where
   pub own : IsStarted w n
   pub alive : isLive w n ≡ true
   pub childless : hasLiveChild w n ≡ false
@@ -33,7 +33,7 @@ no-live-child w n none m h l e =
 
 -- ---- one action finishes: what its state alone gives of a change
 
-module _ (w v : List ℕ) (n : ℕ) (j : Judged w n)
+module _ (w v : List ℕ) (n : ℕ) (j : Committable w n)
     (finished : (stateOf v n ≡ committed) ⊎ (stateOf v n ≡ aborted))
     (others : (m : ℕ) → 1 ≤ m → m ≢ n → stateOf v m ≡ stateOf w m) where
   finished-not-live : isLive v n ≡ true → ⊥
@@ -63,21 +63,21 @@ module _ (w v : List ℕ) (n : ℕ) (j : Judged w n)
 
 -- ---- a failed commit: the action becomes aborted, and nothing else changes
 
-module _ (w : List ℕ) (s : Sound w) (n : ℕ) (j : Judged w n) where
+module _ (w : List ℕ) (s : Sound w) (n : ℕ) (j : Committable w n) where
   abbrev failed : List ℕ
   failed = withState w n aborted
 
   fail-others : (m : ℕ) → 1 ≤ m → m ≢ n → stateOf failed m ≡ stateOf w m
-  fail-others m pos ne = word-other-row w n m 1 1 aborted (omega arith) (omega arith) ne
+  fail-others m pos ne = word-other-row w n m stateField stateField aborted (omega arith) (omega arith) ne
 
   fail-state : stateOf failed n ≡ aborted
-  fail-state = word-same w n 1 aborted (s .long) (omega (arith, j .own, s .few)) (omega arith)
+  fail-state = word-same w n stateField aborted (s .long) (omega (arith, j .own, s .few)) (omega arith)
 
-  fail-keeps-field : (m g : ℕ) → g < width → g ≢ 1 → word failed m g ≡ word w m g
-  fail-keeps-field m g h ne = word-off-field w n m 1 g aborted (omega arith) h ne
+  fail-keeps-field : (m g : ℕ) → g < width → g ≢ stateField → word failed m g ≡ word w m g
+  fail-keeps-field m g h ne = word-off-field w n m stateField g aborted (omega arith) h ne
 
   fail-head : (g : ℕ) → g < width → word failed 0 g ≡ word w 0 g
-  fail-head g h = word-other-row w n 0 1 g aborted (omega arith) h (λ z. omega (arith, j .own))
+  fail-head g h = word-other-row w n 0 stateField g aborted (omega arith) h (λ z. omega (arith, j .own))
 
   -- it was live, so it was not committed; now it is aborted
   fail-committed : (m : ℕ) → 1 ≤ m → isCommitted failed m ≡ isCommitted w m
@@ -92,36 +92,36 @@ module _ (w : List ℕ) (s : Sound w) (n : ℕ) (j : Judged w n) where
       let did = rw (fail-committed m (h .0)) at (and-left (isCommitted failed m) (hasWrites failed m) e) in
       let other : m ≢ n = λ z. live-uncommitted w n (j .alive) (rw z at did) in
       and-both did
-      (sym (writes-agree w failed m (λ k hk. word-other-row w n m 1 (writeField k) aborted (omega arith) (omega arith) other))
+      (sym (writes-agree w failed m (λ k hk. word-other-row w n m stateField (writeField k) aborted (omega arith) (omega arith) other))
       ∙ and-right (isCommitted failed m) (hasWrites failed m) e)
 
   fail-reads :
       (m k : ℕ) → IsStarted w m → isLive failed m ≡ true → k < accountCount → hasRead failed m k ≡ true → readTime failed m k ≤ counter failed
   fail-reads m k h l hk r =
       let entry : readEntry failed m k ≡ readEntry w m k = fail-keeps-field m (readField k) (omega arith) (λ z. omega arith) in
-      rw (entry, fail-head 1 (omega arith))
+      rw (entry, fail-head counterField (omega arith))
       (s .reads m k h (was-live w failed n j (inr fail-state) fail-others m h l) hk (rw entry at r))
 
-  pub fail-change : Change w (withState w n aborted) n
+  pub fail-change : TableChange w (withState w n aborted) n
   unfolding actions
   fail-change =
       record {
-        long = withWord-length w n 1 aborted ∙ s .long;
-        sameStarted = fail-head 0 (omega arith);
-        rising = le-of-eq (sym (fail-head 1 (omega arith)));
+        long = withWord-length w n stateField aborted ∙ s .long;
+        sameStarted = fail-head startedField (omega arith);
+        rising = le-of-eq (sym (fail-head counterField (omega arith)));
         counted =
             rw (
-              fail-head 1 (omega arith),
-              fail-head 0 (omega arith),
+              fail-head counterField (omega arith),
+              fail-head startedField (omega arith),
               count-agree (isCommitted failed) (isCommitted w) 1 (started w) (λ m h. fail-committed m (h .0)),
             )
             (s .counted);
         states = has-state w failed n j (inr fail-state) fail-others s;
-        parents = λ m h. fail-keeps-field m 0 (omega arith) (λ z. omega arith);
+        parents = λ m h. fail-keeps-field m parentField (omega arith) (λ z. omega arith);
         wasLive = was-live w failed n j (inr fail-state) fail-others;
         parentStays = parent-stays w failed n j (inr fail-state) fail-others;
         reads = fail-reads;
-        ends = λ m h e. inl (fail-end m h e, fail-keeps-field m 2 (omega arith) (λ z. omega arith));
+        ends = λ m h e. inl (fail-end m h e, fail-keeps-field m endField (omega arith) (λ z. omega arith));
       }
 
 -- ---- a commit that passes
@@ -136,7 +136,7 @@ joined-bound a b c f g = go (ℕ-discrete a 0) (ℕ-discrete b 0)
     go (no x) (yes y) = rw (ne-eqb a 0 x, y) (f x)
     go (no x) (no y) = rw (ne-eqb a 0 x, ne-eqb b 0 y) (omega (arith, f x, g y))
 
-module _ (w : List ℕ) (s : Sound w) (n : ℕ) (j : Judged w n) where
+module _ (w : List ℕ) (s : Sound w) (n : ℕ) (j : Committable w n) where
   abbrev parent : ℕ
   parent = parentOf w n
 
@@ -157,7 +157,7 @@ module _ (w : List ℕ) (s : Sound w) (n : ℕ) (j : Judged w n) where
   pass-state = commit-state w n parent (j .own .0) (s .long) n-few
 
   pass-others : (m : ℕ) → 1 ≤ m → m ≢ n → stateOf passed m ≡ stateOf w m
-  pass-others m pos ne = commit-keeps-row w n parent (j .own .0) m 1 (omega arith) pos ne (inr (omega arith))
+  pass-others m pos ne = commit-keeps-row w n parent (j .own .0) m stateField (omega arith) pos ne (inr (omega arith))
 
   pass-counter : counter passed ≡ commitCounter w n
   pass-counter = commit-counter w n parent (j .own .0) (s .long) n-few
@@ -199,7 +199,7 @@ module _ (w : List ℕ) (s : Sound w) (n : ℕ) (j : Judged w n) where
         and-both did
             (sym (writes-agree w passed m (λ k hk. commit-keeps-row w n parent (j .own .0) m (writeField k) (omega arith) (h .0) ne (inl apart)))
             ∙ and-right (isCommitted passed m) (hasWrites passed m) e),
-        commit-keeps-row w n parent (j .own .0) m 2 (omega arith) (h .0) ne (inr (omega arith)),
+        commit-keeps-row w n parent (j .own .0) m endField (omega arith) (h .0) ne (inr (omega arith)),
       )
 
   pass-end : (m : ℕ) → IsStarted w m → hasEnd passed m ≡ true → Ended w passed n m
@@ -235,7 +235,7 @@ module _ (w : List ℕ) (s : Sound w) (n : ℕ) (j : Judged w n) where
           commit-keeps-row w n parent (j .own .0) m (readField k) (omega arith) (h .0) other (inl ne) in
           rw entry (old-time m k h was hk (eqb-false _ _ (not-true _ (rw entry at r))))
 
-  pub commit-change : Change w (commitTable w n (parentOf w n)) n
+  pub commit-change : TableChange w (commitTable w n (parentOf w n)) n
   commit-change =
       record {
         long = commit-length w n parent (j .own .0) ∙ s .long;

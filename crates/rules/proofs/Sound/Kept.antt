@@ -8,17 +8,20 @@ use Rattle.rules.specs.Range.{upFrom, all, count}
 use Rattle.rules.specs.Table.{word, newTable, actions}
 use Rattle.rules.specs.Sound.{sound, IsStarted, Sound}
 use Rattle.rules.specs.Event.{Event, isStart, isRead, isWrite, isCommit}
-use Rattle.rules.specs.Clash.{Found, none, at, firstClash}
-use Rattle.rules.specs.Step.{State, Outcome, start, read, write, committedUnder, judged, commit, abort, step}
+use Rattle.rules.specs.declared.Found.{Found}
+use Rattle.rules.specs.declared.Found.the-variants.{Nothing, At}
+use Rattle.rules.specs.Clash.{firstClash}
+use Rattle.rules.specs.Ledger.{Ledger}
+use Rattle.rules.specs.Step.{Outcome, start, read, write, committedUnder, judged, commit, abort, step}
 use Rattle.rules.specs.Run.{run}
 use Rattle.rules.proofs.Laws.Tests.{or-inl, or-inr}
-use Rattle.rules.proofs.Laws.Steps.{AllowedIn, step-by-cause, act-by-kind, write-no-start, commit-no-start}
+use Rattle.rules.proofs.Laws.EventCases.{AllowedIn, step-by-cause, act-by-kind, write-no-start, commit-no-start}
 use Rattle.rules.proofs.Sound.Soundness.{facts}
-use Rattle.rules.proofs.Sound.Changes.{Change, change-keeps-sound}
+use Rattle.rules.proofs.Sound.TableChanges.{TableChange, change-keeps-sound}
 use Rattle.rules.proofs.Sound.Starting.{start-keeps-sound}
 use Rattle.rules.proofs.Sound.Reading.{read-change}
 use Rattle.rules.proofs.Sound.Writing.{write-change}
-use Rattle.rules.proofs.Sound.Judging.{Judged, fail-change, commit-change}
+use Rattle.rules.proofs.Sound.Judging.{Committable, fail-change, commit-change}
 use Rattle.rules.proofs.Sound.Aborting.{abort-change}
 
 pub new-sound : Sound newTable
@@ -31,11 +34,11 @@ new-sound = facts newTable refl
 abbrev Sounds : Outcome → Type 0
 Sounds o = Sound (o .after .table)
 
-module _ (s : State) (e : Event) (a : AllowedIn s e) where
+module _ (s : Ledger) (e : Event) (a : AllowedIn s e) where
   was : Sound (s .table)
   was = facts (s .table) (a .soundTest)
 
-  by-change : (v : List ℕ) → Change (s .table) v (e .number) → Sound v
+  by-change : (v : List ℕ) → TableChange (s .table) v (e .number) → Sound v
   by-change v c = change-keeps-sound (s .table) v (e .number) was c
 
   start-sound : isStart e ≡ true → Sounds (start s (e .number))
@@ -56,10 +59,10 @@ module _ (s : State) (e : Event) (a : AllowedIn s e) where
       by-change _
       (write-change (s .table) was (e .number) (e .account) named (a .alive (named .0)) (a .accountKnown (or-inr (isRead e) p)))
 
-  judged-sound : Judged (s .table) (e .number) → (f : Found) → Sounds (judged s (e .number) f)
+  judged-sound : Committable (s .table) (e .number) → (f : Found) → Sounds (judged s (e .number) f)
   unfolding judged committedUnder
-  judged-sound j none = by-change _ (commit-change (s .table) was (e .number) j)
-  judged-sound j (at t k) = by-change _ (fail-change (s .table) was (e .number) j)
+  judged-sound j Nothing = by-change _ (commit-change (s .table) was (e .number) j)
+  judged-sound j (At t k) = by-change _ (fail-change (s .table) was (e .number) j)
 
   commit-sound : isCommit e ≡ true → Sounds (commit s (e .number))
   unfolding commit
@@ -74,12 +77,12 @@ module _ (s : State) (e : Event) (a : AllowedIn s e) where
 
 -- ---- any event, and any list of them
 
-pub step-keeps-sound : (s : State) (e : Event) → Sound (s .table) → Sound (step s e .after .table)
+pub step-keeps-sound : (s : Ledger) (e : Event) → Sound (s .table) → Sound (step s e .after .table)
 step-keeps-sound s e sounds =
     step-by-cause s e Sounds sounds
     (λ a. act-by-kind s e Sounds (start-sound s e a) (read-sound s e a) (write-sound s e a) (commit-sound s e a) (λ _. abort-sound s e a))
 
-pub run-keeps-sound : (s : State) (es : List Event) → Sound (s .table) → Sound (run s es .after .table)
+pub run-keeps-sound : (s : Ledger) (es : List Event) → Sound (s .table) → Sound (run s es .after .table)
 unfolding run
 run-keeps-sound s [] sounds = sounds
 run-keeps-sound s (e ∷ es) sounds = run-keeps-sound (step s e .after) es (step-keeps-sound s e sounds)

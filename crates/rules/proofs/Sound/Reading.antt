@@ -10,11 +10,11 @@ use mathlib.Core.List.{List}
 use lib.Dec.{eqb}
 use lib.ListN.{length}
 use Rattle.rules.specs.Card.{accountCount}
-use Rattle.rules.specs.Table.{hasEnd, width, committed, word, counter, stateOf, readField, readEntry, withRead, hasRead, readTime, writeField, isLive}
+use Rattle.rules.specs.Table.{hasEnd, width, committed, word, startedField, counterField, counter, parentField, stateField, stateOf, endField, readField, readEntry, withRead, hasRead, readTime, writeField, isLive}
 use Rattle.rules.specs.Sound.{IsStarted, Sound}
 use Rattle.rules.specs.Step.{readTable}
 use Rattle.rules.proofs.Laws.Words.{withWord-length, word-same, word-other-row, word-off-field}
-use Rattle.rules.proofs.Sound.Changes.{Change, quiet-change, writes-agree}
+use Rattle.rules.proofs.Sound.TableChanges.{TableChange, quiet-change, writes-agree}
 use Rattle.rules.proofs.Laws.Tests.{cond-holds}
 
 -- ---- the table after a read of account k by n
@@ -43,10 +43,10 @@ module _ (w : List ℕ) (n k : ℕ) (account : k < accountCount) where
       read-holds (λ v. word v m g ≡ word w m g) refl (word-other-row w n m (readField k) g _ (omega arith) hg ne)
 
   counter-kept : counter (readTable w n k) ≡ counter w
-  counter-kept = read-keeps-field 0 1 (omega arith) (λ z. omega arith)
+  counter-kept = read-keeps-field 0 counterField (omega arith) (λ z. omega arith)
 
   state-kept : (m : ℕ) → stateOf (readTable w n k) m ≡ stateOf w m
-  state-kept m = read-keeps-field m 1 (omega arith) (λ z. omega arith)
+  state-kept m = read-keeps-field m stateField (omega arith) (λ z. omega arith)
 
   end-kept : (m : ℕ) → hasEnd (readTable w n k) m ≡ hasEnd w m
   end-kept m =
@@ -54,7 +54,7 @@ module _ (w : List ℕ) (n k : ℕ) (account : k < accountCount) where
       (writes-agree w _ m (λ j hj. read-keeps-field m (writeField j) (omega arith) (λ z. omega arith)))
 
   module _ (s : Sound w) where
-    -- "if the account isn't in the read set it is added with the counter as its time; a later read keeps the first time"
+    -- RULES 2.3
     pub read-entry : IsStarted w n → readEntry (readTable w n k) n k ≡ cond (hasRead w n k) (readEntry w n k) (counter w + 1)
     unfolding readTable
     read-entry own = go (hasRead w n k)
@@ -82,11 +82,11 @@ module _ (w : List ℕ) (n k : ℕ) (account : k < accountCount) where
         go (inl old) = rw old (s .reads m j h (rw (state-kept m) at l) hj (rw old at r))
         go (inr new) = omega arith
 
-    pub read-change : Change w (readTable w n k) n
+    pub read-change : TableChange w (readTable w n k) n
     read-change =
         quiet-change w (readTable w n k) n s read-length
-        (read-keeps-field 0 0 (omega arith) (λ z. omega arith))
+        (read-keeps-field 0 startedField (omega arith) (λ z. omega arith))
         counter-kept
-        (λ m. read-keeps-field m 0 (omega arith) (λ z. omega arith))
+        (λ m. read-keeps-field m parentField (omega arith) (λ z. omega arith))
         state-kept reads-in-time
-        (λ m h e. inl (sym (end-kept m) ∙ e, read-keeps-field m 2 (omega arith) (λ z. omega arith)))
+        (λ m h e. inl (sym (end-kept m) ∙ e, read-keeps-field m endField (omega arith) (λ z. omega arith)))

@@ -11,7 +11,7 @@ use lib.ListN.{length}
 use Rattle.rules.specs.Range.{all, count}
 use Rattle.rules.specs.Card.{accountCount, accounts}
 use Rattle.rules.specs.Table.{hasEnd, tableLength, mostActions, started, counter, parentOf, endTime, hasRead, readTime, isLive, isCommitted, actions}
-use Rattle.rules.specs.Sound.{hasState, hasParentBelow, hasParentAlive, hasReadInTime, hasEndInTime, isTwin, hasEndAlone, isSoundAction, sound, IsStarted, Sound}
+use Rattle.rules.specs.Sound.{hasState, hasParentBelow, hasParentAlive, hasReadInTime, hasEndInTime, sharesEndTime, hasEndAlone, isSoundAction, sound, IsStarted, Sound}
 use Rattle.rules.proofs.Laws.Tests.{and-left, and-right, and-both, or-cases, or-inl, or-inr, test, implied, implies, not-both, false-of-not-true}
 use Rattle.rules.proofs.Laws.Ranges.{Within, all-at, all-of}
 
@@ -53,9 +53,9 @@ module _ (w : List ℕ) (n : ℕ) where
   reads-fact : hasReadInTime w n ≡ true → ReadsInTime
   unfolding ReadsInTime hasReadInTime accounts
   reads-fact h p k hk r =
-      let each : (not (hasRead w n k) || leb (readTime w n k) (counter w)) ≡ true =
+      let fold : (not (hasRead w n k) || leb (readTime w n k) (counter w)) ≡ true =
       all-at _ 0 accountCount k (implied (isLive w n) _ h p) (omega arith) in
-      leb-true _ _ (implied (hasRead w n k) _ each r)
+      leb-true _ _ (implied (hasRead w n k) _ fold r)
 
   reads-test : ReadsInTime → hasReadInTime w n ≡ true
   unfolding ReadsInTime hasReadInTime accounts
@@ -84,18 +84,18 @@ module _ (w : List ℕ) (n : ℕ) where
   alone-fact : hasEndAlone w n ≡ true → EndAlone
   unfolding EndAlone hasEndAlone
   alone-fact h m lower p q parents ends =
-      let single : not (isTwin w n m) ≡ true = all-at _ 1 (n - 1) m (implied (hasEnd w n) _ h p) (omega arith) in
-      not-both (and-both (and-both q (eq-eqb _ _ parents)) (eq-eqb _ _ ends)) (not-true (isTwin w n m) single)
+      let single : not (sharesEndTime w n m) ≡ true = all-at _ 1 (n - 1) m (implied (hasEnd w n) _ h p) (omega arith) in
+      not-both (and-both (and-both q (eq-eqb _ _ parents)) (eq-eqb _ _ ends)) (not-true (sharesEndTime w n m) single)
 
   alone-test : EndAlone → hasEndAlone w n ≡ true
   unfolding EndAlone hasEndAlone
   alone-test f =
-      implies (hasEnd w n) _ (λ p. all-of _ 1 (n - 1) (λ m h. no-twin p m h))
+      implies (hasEnd w n) _ (λ p. all-of _ 1 (n - 1) (λ m h. none-shares p m h))
     where
-      no-twin : hasEnd w n ≡ true → (m : ℕ) → Within 1 (n - 1) m → not (isTwin w n m) ≡ true
-      no-twin p m h =
+      none-shares : hasEnd w n ≡ true → (m : ℕ) → Within 1 (n - 1) m → not (sharesEndTime w n m) ≡ true
+      none-shares p m h =
           ap not
-          (false-of-not-true (isTwin w n m)
+          (false-of-not-true (sharesEndTime w n m)
           (λ t.
           let pair = and-left (hasEnd w m && eqb (parentOf w m) (parentOf w n)) _ t in
           f m (omega arith) p
@@ -156,11 +156,11 @@ module _ (w : List ℕ) where
       let long = eqb (length w) tableLength in
       let few = leb (started w) mostActions in
       let counted = leb (counter w) (count (isCommitted w) (actions w)) in
-      let each = all (isSoundAction w) (actions w) in
-      let t3 = and-left (long && few && counted) each t in
+      let fold = all (isSoundAction w) (actions w) in
+      let t3 = and-left (long && few && counted) fold t in
       let t2 = and-left (long && few) counted t3 in
       let of : (n : ℕ) → IsStarted w n → SoundAction w n =
-      λ n h. action-facts w n (all-started w (isSoundAction w) (and-right (long && few && counted) each t) n h) in
+      λ n h. action-facts w n (all-started w (isSoundAction w) (and-right (long && few && counted) fold t) n h) in
       record {
         long = eqb-true _ _ (and-left long few t2);
         few = leb-true _ _ (and-right long few t2);

@@ -12,14 +12,14 @@ use lib.Dec.{eqb}
 use lib.ListN.{length}
 use Rattle.rules.specs.Range.{count}
 use Rattle.rules.specs.Card.{accountCount}
-use Rattle.rules.specs.Table.{hasEnd, width, tableLength, mostActions, live, committed, word, started, withStarted, counter, parentOf, withParent, stateOf, withState, endTime, withEndTime, readField, readEntry, writeField, writeEntry, hasRead, readTime, isLive, isCommitted, actions}
+use Rattle.rules.specs.Table.{hasEnd, width, tableLength, mostActions, live, committed, word, startedField, started, withStarted, counterField, counter, parentField, parentOf, withParent, stateField, stateOf, withState, endField, endTime, withEndTime, readField, readEntry, writeField, writeEntry, hasRead, readTime, isLive, isCommitted, actions}
 use Rattle.rules.specs.Sound.{IsStarted, Sound}
 use Rattle.rules.specs.Step.{startTable}
 use Rattle.rules.proofs.Laws.Tests.{and-left, not-both}
 use Rattle.rules.proofs.Laws.Ranges.{count-agree, count-snoc}
 use Rattle.rules.proofs.Laws.Words.{withWord-length, word-same, word-other-row, word-other-field}
 use Rattle.rules.proofs.Laws.Sets.{withSets-length, withSets-other-row, withSets-other-field, withSets-read, withSets-write}
-use Rattle.rules.proofs.Sound.Changes.{writes-agree, live-uncommitted}
+use Rattle.rules.proofs.Sound.TableChanges.{writes-agree, live-uncommitted}
 
 module _ (w : List ℕ) (p : ℕ) where
   -- the number that the new action gets
@@ -41,7 +41,7 @@ module _ (w : List ℕ) (p : ℕ) where
 
   filled-length : length filled ≡ length w
   filled-length =
-      withWord-length stated new 2 0 ∙ withWord-length parented new 1 live ∙ withWord-length headed new 0 p ∙ withWord-length w 0 0 new
+      withWord-length stated new endField 0 ∙ withWord-length parented new stateField live ∙ withWord-length headed new parentField p ∙ withWord-length w 0 startedField new
 
   pub start-length : length (startTable w p) ≡ length w
   unfolding startTable
@@ -52,35 +52,35 @@ module _ (w : List ℕ) (p : ℕ) where
   unfolding startTable
   start-keeps-row m g h one ne =
       withSets-other-row filled new _ _ m g h ne
-      ∙ word-other-row stated new m 2 g 0 (omega arith) h ne
-      ∙ word-other-row parented new m 1 g live (omega arith) h ne
-      ∙ word-other-row headed new m 0 g p (omega arith) h ne
-      ∙ word-other-row w 0 m 0 g new (omega arith) h (λ z. omega arith)
+      ∙ word-other-row stated new m endField g 0 (omega arith) h ne
+      ∙ word-other-row parented new m stateField g live (omega arith) h ne
+      ∙ word-other-row headed new m parentField g p (omega arith) h ne
+      ∙ word-other-row w 0 m startedField g new (omega arith) h (λ z. omega arith)
 
   -- the head
   head-from : (g : ℕ) → g < width → word (startTable w p) 0 g ≡ word headed 0 g
   unfolding startTable
   head-from g h =
       withSets-other-row filled new _ _ 0 g h (λ z. omega arith)
-      ∙ word-other-row stated new 0 2 g 0 (omega arith) h (λ z. omega arith)
-      ∙ word-other-row parented new 0 1 g live (omega arith) h (λ z. omega arith)
-      ∙ word-other-row headed new 0 0 g p (omega arith) h (λ z. omega arith)
+      ∙ word-other-row stated new 0 endField g 0 (omega arith) h (λ z. omega arith)
+      ∙ word-other-row parented new 0 stateField g live (omega arith) h (λ z. omega arith)
+      ∙ word-other-row headed new 0 parentField g p (omega arith) h (λ z. omega arith)
 
   pub start-counter : counter (startTable w p) ≡ counter w
-  start-counter = head-from 1 (omega arith) ∙ word-other-field w 0 0 1 new (λ z. omega arith)
+  start-counter = head-from counterField (omega arith) ∙ word-other-field w 0 startedField counterField new (λ z. omega arith)
 
   module _ (long : length w ≡ tableLength) (room : started w < mostActions) where
     pub start-started : started (startTable w p) ≡ started w + 1
-    start-started = head-from 0 (omega arith) ∙ word-same w 0 0 new long (omega arith) (omega arith)
+    start-started = head-from startedField (omega arith) ∙ word-same w 0 startedField new long (omega arith) (omega arith)
 
     headed-long : length headed ≡ tableLength
-    headed-long = withWord-length w 0 0 new ∙ long
+    headed-long = withWord-length w 0 startedField new ∙ long
 
     parented-long : length parented ≡ tableLength
-    parented-long = withWord-length headed new 0 p ∙ headed-long
+    parented-long = withWord-length headed new parentField p ∙ headed-long
 
     stated-long : length stated ≡ tableLength
-    stated-long = withWord-length parented new 1 live ∙ parented-long
+    stated-long = withWord-length parented new stateField live ∙ parented-long
 
     filled-long : length filled ≡ tableLength
     filled-long = filled-length ∙ long
@@ -89,23 +89,23 @@ module _ (w : List ℕ) (p : ℕ) where
     pub start-parent : parentOf (startTable w p) new ≡ p
     unfolding startTable
     start-parent =
-        withSets-other-field filled new _ _ 0 (omega arith)
-        ∙ word-other-field stated new 2 0 0 (λ z. omega arith)
-        ∙ word-other-field parented new 1 0 live (λ z. omega arith)
-        ∙ word-same headed new 0 p headed-long (omega arith) (omega arith)
+        withSets-other-field filled new _ _ parentField (omega arith)
+        ∙ word-other-field stated new endField parentField 0 (λ z. omega arith)
+        ∙ word-other-field parented new stateField parentField live (λ z. omega arith)
+        ∙ word-same headed new parentField p headed-long (omega arith) (omega arith)
 
     pub start-state : stateOf (startTable w p) new ≡ live
     unfolding startTable
     start-state =
-        withSets-other-field filled new _ _ 1 (omega arith)
-        ∙ word-other-field stated new 2 1 0 (λ z. omega arith)
-        ∙ word-same parented new 1 live parented-long (omega arith) (omega arith)
+        withSets-other-field filled new _ _ stateField (omega arith)
+        ∙ word-other-field stated new endField stateField 0 (λ z. omega arith)
+        ∙ word-same parented new stateField live parented-long (omega arith) (omega arith)
 
     pub start-end : endTime (startTable w p) new ≡ 0
     unfolding startTable
     start-end =
-        withSets-other-field filled new _ _ 2 (omega arith)
-        ∙ word-same stated new 2 0 stated-long (omega arith) (omega arith)
+        withSets-other-field filled new _ _ endField (omega arith)
+        ∙ word-same stated new endField 0 stated-long (omega arith) (omega arith)
 
     pub start-read : (k : ℕ) → k < accountCount → readEntry (startTable w p) new k ≡ 0
     unfolding startTable
@@ -132,7 +132,7 @@ module _ (w : List ℕ) (p : ℕ) (s : Sound w) (room : started w < mostActions)
 
   old-end : (m : ℕ) → IsStarted w m → hasEnd (startTable w p) m ≡ hasEnd w m
   old-end m h =
-      rw (old-row m 1 h (omega arith), writes-agree w (startTable w p) m (λ k hk. old-row m (writeField k) h (omega arith))) refl
+      rw (old-row m stateField h (omega arith), writes-agree w (startTable w p) m (λ k hk. old-row m (writeField k) h (omega arith))) refl
 
   -- the new action is live, so it has no end
   new-no-end : hasEnd (startTable w p) (new w p) ≡ true → ⊥
@@ -153,7 +153,7 @@ module _ (w : List ℕ) (p : ℕ) (s : Sound w) (room : started w < mostActions)
         add-one (started w),
         count-snoc (isCommitted (startTable w p)) 1 (started w),
         count-agree (isCommitted (startTable w p)) (isCommitted w) 1 (started w)
-            (λ m h. ap (λ x. eqb x committed) (old-row m 1 (omega arith) (omega arith))),
+            (λ m h. ap (λ x. eqb x committed) (old-row m stateField (omega arith) (omega arith))),
       )
       (omega (arith, s .counted))
 
@@ -164,7 +164,7 @@ module _ (w : List ℕ) (p : ℕ) (s : Sound w) (room : started w < mostActions)
     where
       go : Dec (q ≡ 0) → (q ≡ 0) ⊎ (isLive (startTable w p) q ≡ true)
       go (yes e) = inl e
-      go (no ne) = inr (rw (old-row q 1 (omega arith) (omega arith)) l)
+      go (no ne) = inr (rw (old-row q stateField (omega arith) (omega arith)) l)
 
   no-read : (k : ℕ) → k < accountCount → hasRead (startTable w p) (new w p) k ≡ true → ⊥
   no-read k hk r = not-both r (rw (start-read w p (s .long) room k hk))
@@ -175,25 +175,25 @@ module _ (w : List ℕ) (p : ℕ) (s : Sound w) (room : started w < mostActions)
         long = start-length w p ∙ s .long;
         few = rw (start-started w p (s .long) room) (omega arith);
         states =
-            by-age _ (λ m h. rw (old-row m 1 h (omega arith)) (s .states m h)) (rw (start-state w p (s .long) room) refl);
+            by-age _ (λ m h. rw (old-row m stateField h (omega arith)) (s .states m h)) (rw (start-state w p (s .long) room) refl);
         counted = rw (start-counter w p) no-fewer-committed;
         below =
-            by-age _ (λ m h. rw (old-row m 0 h (omega arith)) (s .below m h)) (rw (start-parent w p (s .long) room) (omega arith));
+            by-age _ (λ m h. rw (old-row m parentField h (omega arith)) (s .below m h)) (rw (start-parent w p (s .long) room) (omega arith));
         alive =
             by-age _
             (λ m h l.
-            rw (old-row m 0 h (omega arith))
-            (parent-alive (parentOf w m) (omega (arith, s .below m h)) (s .alive m h (rw (old-row m 1 h (omega arith)) at l))))
+            rw (old-row m parentField h (omega arith))
+            (parent-alive (parentOf w m) (omega (arith, s .below m h)) (s .alive m h (rw (old-row m stateField h (omega arith)) at l))))
             (λ l. rw (start-parent w p (s .long) room) (parent-alive p known (store-or-live (ℕ-discrete p 0))));
         reads =
             λ m k h. by-age (λ x. isLive (startTable w p) x ≡ true → k < accountCount → hasRead (startTable w p) x k ≡ true → readTime (startTable w p) x k ≤ counter (startTable w p))
             (λ x hx l hk r.
             rw (old-row x (readField k) hx (omega arith), start-counter w p)
-            (s .reads x k hx (rw (old-row x 1 hx (omega arith)) at l) hk (rw (old-row x (readField k) hx (omega arith)) at r)))
+            (s .reads x k hx (rw (old-row x stateField hx (omega arith)) at l) hk (rw (old-row x (readField k) hx (omega arith)) at r)))
             (λ l hk r. absurd (no-read k hk r)) m h;
         ends =
             by-age _
-            (λ m h e. rw (old-row m 2 h (omega arith), start-counter w p) (s .ends m h (rw (old-end m h) at e)))
+            (λ m h e. rw (old-row m endField h (omega arith), start-counter w p) (s .ends m h (rw (old-end m h) at e)))
             (λ e. absurd (new-no-end e));
         alone = ends-alone;
       }
@@ -211,7 +211,7 @@ module _ (w : List ℕ) (p : ℕ) (s : Sound w) (room : started w < mostActions)
           (λ on. ⊎-elim
           (λ om.
           s .alone n m on om (rw (old-end n on) at en) (rw (old-end m om) at em)
-          (sym (old-row m 0 om (omega arith)) ∙ parents ∙ old-row n 0 on (omega arith))
-          (sym (old-row m 2 om (omega arith)) ∙ ends ∙ old-row n 2 on (omega arith)))
+          (sym (old-row m parentField om (omega arith)) ∙ parents ∙ old-row n parentField on (omega arith))
+          (sym (old-row m endField om (omega arith)) ∙ ends ∙ old-row n endField on (omega arith)))
           (λ e. absurd (new-no-end (rw e at em))) (old-or-new m hm))
           (λ e. absurd (new-no-end (rw e at en))) (old-or-new n hn)

@@ -7,11 +7,11 @@ use mathlib.Core.Logic.{_⊎_, inl, inr, _≢_}
 use mathlib.Core.Bool.{Bool, true, false, cond}
 use mathlib.Core.List.{List}
 use lib.ListN.{length, getD}
-use Rattle.rules.specs.Card.{accountCount, accounts, cardLength, baseLength, shadowLength, basePlace, shadowPlace, cardAt, withCard}
+use Rattle.rules.specs.Card.{accountCount, accounts, cardLength, baseLength, shadowLength, basePlace, shadowPlace, cardAt, withCard, cardsPlace}
 use Rattle.rules.specs.Table.{mostActions, hasWritten}
 use Rattle.rules.specs.Step.{copyCards}
 use Rattle.rules.proofs.Laws.Tests.{cond-holds}
-use Rattle.rules.proofs.Laws.Ranges.{Within, each-keeps, each-changes}
+use Rattle.rules.proofs.Laws.Ranges.{Within, fold-keeps, fold-changes}
 use Rattle.rules.proofs.Laws.Sets.{account-within}
 use Rattle.rules.proofs.Laws.Cards.{Fits, Outside, Apart, cardAt-length, withCard-length, withCard-outside, cardAt-same, cardAt-apart}
 
@@ -27,7 +27,7 @@ pub base-line : (base : List ℕ) → length base ≡ baseLength → Line basePl
 base-line base e = record { first = 0; stands = λ k. omega arith; inside = omega arith }
 
 pub shadow-line : (shadow : List ℕ) (n : ℕ) → length shadow ≡ shadowLength → n ≤ mostActions → Line (shadowPlace n) shadow
-shadow-line shadow n e few = record { first = 1024 * (n - 1); stands = λ k. refl; inside = omega arith }
+shadow-line shadow n e few = record { first = cardsPlace n; stands = λ k. refl; inside = omega arith }
 
 -- the cards of two actions, or for two accounts, share no byte
 pub shadow-apart :
@@ -38,7 +38,7 @@ shadow-apart n m k j n-action m-action k-account j-account differ =
   where
     -- how many cards stand before action x's card for account i
     nth : ℕ → ℕ → ℕ
-    nth x i = 32 * (x - 1) + i
+    nth x i = accountCount * (x - 1) + i
 
     nths-differ : (m ≢ n) ⊎ (j ≢ k) → nth n k ≢ nth m j
     nths-differ (inl ne) e = ne (omega arith)
@@ -89,7 +89,7 @@ module _
 
   pub copyCards-length : length (copyCards w n shadow place to) ≡ length to
   unfolding copyCards accounts copy-one
-  copyCards-length = each-keeps (λ s. length s ≡ length to) copy-one 0 accountCount (λ k h. copy-one-length k (omega arith)) to refl
+  copyCards-length = fold-keeps (λ s. length s ≡ length to) copy-one 0 accountCount (λ k h. copy-one-length k (omega arith)) to refl
 
   -- what each copy that is made keeps, all of them keep
   copies-keep :
@@ -98,7 +98,7 @@ module _
       P (withCard s (place k) (cardAt shadow (shadowPlace n k)))) →
       P to → P (copyCards w n shadow place to)
   unfolding copyCards accounts copy-one
-  copies-keep P keeps p = each-keeps (λ s. (length s ≡ length to) × P s) copy-one 0 accountCount keeps-both to (refl, p) .1
+  copies-keep P keeps p = fold-keeps (λ s. (length s ≡ length to) × P s) copy-one 0 accountCount keeps-both to (refl, p) .1
     where
       keeps-both :
           (k : ℕ) → Within 0 accountCount k → (s : List ℕ) → (length s ≡ length to) × P s →
@@ -157,7 +157,7 @@ module _
       ≡ cond (hasWritten w n k) (cardAt shadow (shadowPlace n k)) (cardAt to (place k))
   unfolding copyCards accounts copy-one
   copyCards-card k h =
-      each-changes (λ s. length s ≡ length to) (λ s. cardAt s (place k))
+      fold-changes (λ s. length s ≡ length to) (λ s. cardAt s (place k))
       (cond (hasWritten w n k) (cardAt shadow (shadowPlace n k)))
       copy-one 0 accountCount k
       (λ j r. copy-one-length j (omega arith))

@@ -1,4 +1,4 @@
--- A look: refused exactly when a read event of that action and account is, and then with the empty part; else the part
+-- A look: its cause is a read's, and with one it gives the empty part; else the part
 -- is a whole card inside its store. Assumes nothing.
 use Prim.Native.Nat.{ℕ, _+_, _≤_}
 use native.Mathlib.Omega.{arith}
@@ -10,24 +10,24 @@ use lib.ListN.{length}
 use borrow.Author.Tests.{eq-eqb, ne-eqb}
 use Rattle.rules.specs.Card.{cardLength}
 use Rattle.rules.specs.Table.{mostActions}
-use Rattle.rules.specs.Event.{readBy}
+use Rattle.rules.specs.Event.{readCode, readBy}
 use Rattle.rules.specs.Cause.{storeCauses, eventCauses, causesOf, causeOf}
 use Rattle.rules.specs.Nearest.{nearest}
-use Rattle.rules.specs.Look.{Looked, lookCause, Part, emptyPart, cardPart, look, held}
+use Rattle.rules.specs.Look.{Looked, lookCause, Part, emptyPart, cardPart, look, bytesIn}
 use Rattle.rules.proofs.Laws.Tests.{cond-holds}
 use Rattle.rules.proofs.Laws.Walking.{nearest-started}
 use Rattle.rules.proofs.Sound.Soundness.{facts}
 use Rattle.rules.proofs.Laws.Causes.{allowed}
 use Rattle.rules.proofs.Stores.Copies.{base-line, shadow-line, line-fits}
 
--- "is refused exactly when a read event of that action and account is", and by the same cause
+-- RULES 3.2: its cause is the one of a read of the same action and account
 pub look-refused-as-read :
     (w base shadow : List ℕ) (n k : ℕ) (card : List ℕ) →
-    lookCause w base shadow n k ≡ causeOf w base shadow (record { code = 2; number = n; account = k; card = card })
+    lookCause w base shadow n k ≡ causeOf w base shadow (record { code = readCode; number = n; account = k; card = card })
 unfolding lookCause causeOf causesOf storeCauses eventCauses
 look-refused-as-read w base shadow n k card = refl
 
--- "A refused look also hands back the empty part at the start of the base store."
+-- RULES 3.2: refused
 pub look-refused :
     (w base shadow : List ℕ) (n k : ℕ) → lookCause w base shadow n k ≢ 0 →
     look w base shadow n k ≡ record { cause = lookCause w base shadow n k; part = emptyPart }
@@ -44,7 +44,7 @@ look-given w base shadow n k h = rw (eq-eqb (lookCause w base shadow n k) 0 h)
 
 -- a part that is a card of 32 bytes inside its store
 abbrev pub IsWholeCard : List ℕ → List ℕ → Part → Type 0
-IsWholeCard base shadow p = (p .size ≡ cardLength) × (p .place + p .size ≤ length (held base shadow (p .store)))
+IsWholeCard base shadow p = (p .size ≡ cardLength) × (p .place + p .size ≤ length (bytesIn base shadow (p .store)))
 
 pub look-inside :
     (w base shadow : List ℕ) (n k : ℕ) → lookCause w base shadow n k ≡ 0 → IsWholeCard base shadow (look w base shadow n k .part)

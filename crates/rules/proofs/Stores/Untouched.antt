@@ -1,5 +1,5 @@
--- What an event leaves as it was: a refused one everything, any other each byte of the two stores that document 01
--- doesn't say it changes, and the stores' lengths. Assumes nothing.
+-- What an event leaves as it was: a refused one everything, any other each byte of the two stores that RULES 2.7 keeps, and
+-- the lengths of both. Assumes nothing.
 use Prim.Native.Nat.{ℕ, _+_, _≤_, _<_}
 use native.Mathlib.Omega.{arith}
 use mathlib.Core.Path.{_≡_, refl, _∙_}
@@ -14,8 +14,11 @@ use Rattle.rules.specs.declared.Answer.the-variants.{Started, Read, Writ
 use Rattle.rules.specs.Card.{accountCount, accounts, cardLength, basePlace, shadowPlace, withCard}
 use Rattle.rules.specs.Table.{mostActions, parentOf, hasWritten}
 use Rattle.rules.specs.Event.{Event, isRead, isWrite, isCommit}
-use Rattle.rules.specs.Clash.{Found, none, at, firstClash}
-use Rattle.rules.specs.Step.{State, start, read, write, copyCards, committedUnder, judged, commit, abort, act, step}
+use Rattle.rules.specs.declared.Found.{Found}
+use Rattle.rules.specs.declared.Found.the-variants.{Nothing, At}
+use Rattle.rules.specs.Clash.{firstClash}
+use Rattle.rules.specs.Ledger.{Ledger}
+use Rattle.rules.specs.Step.{start, read, write, copyCards, committedUnder, judged, commit, abort, act, step}
 use Rattle.rules.specs.Run.{run}
 use Rattle.rules.specs.Touch.{isInCard, isPut, isCopied, isClear, isCommitting, mayChangeBase, mayChangeShadow}
 use Rattle.rules.proofs.Laws.Tests.{not-holds, and-fails, or-fails, and-left, and-both, or-inr, test, cond-holds}
@@ -23,12 +26,12 @@ use Rattle.rules.proofs.Laws.Ranges.{not-any-at}
 use Rattle.rules.proofs.Laws.Sets.{account-within}
 use Rattle.rules.proofs.Sound.Soundness.{facts}
 use Rattle.rules.proofs.Laws.Cards.{Fits, Outside, withCard-length, withCard-outside}
-use Rattle.rules.proofs.Laws.Steps.{causeIn, AllowedIn, step-by-cause, act-by-kind, commit-no-start}
+use Rattle.rules.proofs.Laws.EventCases.{causeIn, AllowedIn, step-by-cause, act-by-kind, commit-no-start}
 use Rattle.rules.proofs.Stores.Copies.{Line, base-line, shadow-line, line-fits, copyCards-length, copyCards-outside}
 
--- ---- refused events: "Left as it was: table, both stores"
+-- ---- RULES 2.8: refused events
 
-pub cause-leaves : (s : State) (e : Event) → causeIn s e ≢ 0 → step s e ≡ record { answer = Refused (causeIn s e); after = s }
+pub cause-leaves : (s : Ledger) (e : Event) → causeIn s e ≢ 0 → step s e ≡ record { answer = Refused (causeIn s e); after = s }
 unfolding step
 cause-leaves s e h = rw (ne-eqb (causeIn s e) 0 h)
 
@@ -41,7 +44,7 @@ isRefused (Failed t k) = false
 isRefused (Aborted n) = false
 isRefused (Refused c) = true
 
-act-not-refused : (s : State) (e : Event) → isRefused (act s e .answer) ≡ false
+act-not-refused : (s : Ledger) (e : Event) → isRefused (act s e .answer) ≡ false
 unfolding start read write commit abort judged
 act-not-refused s e =
     act-by-kind s e (λ o. isRefused (o .answer) ≡ false) (λ _. refl) (λ _. refl) (λ _. refl)
@@ -49,10 +52,10 @@ act-not-refused s e =
     (λ _. refl)
   where
     judged-not : (found : Found) → isRefused (judged s (e .number) found .answer) ≡ false
-    judged-not none = refl
-    judged-not (at t k) = refl
+    judged-not Nothing = refl
+    judged-not (At t k) = refl
 
-pub refused-leaves : (s : State) (e : Event) (c : ℕ) → step s e .answer ≡ Refused c → step s e .after ≡ s
+pub refused-leaves : (s : Ledger) (e : Event) (c : ℕ) → step s e .answer ≡ Refused c → step s e .after ≡ s
 refused-leaves s e c =
     step-by-cause s e (λ o. o .answer ≡ Refused c → o .after ≡ s) (λ _. refl)
     (λ _ refused. absurd (true≢false (rw refused at (act-not-refused s e))))
@@ -60,30 +63,30 @@ refused-leaves s e c =
 -- ---- what a store can become: itself, or itself with the card of a write or the copies of a commit
 
 -- the cards that a commit of the event's action puts at its parent's places
-abbrev pub copies : State → Event → (ℕ → ℕ) → List ℕ → List ℕ
+abbrev pub copies : Ledger → Event → (ℕ → ℕ) → List ℕ → List ℕ
 copies s e place to = copyCards (s .table) (e .number) (s .shadow) place to
 
-abbrev pub parentIn : State → Event → ℕ
+abbrev pub parentIn : Ledger → Event → ℕ
 parentIn s e = parentOf (s .table) (e .number)
 
-abbrev clash : State → Event → Found
+abbrev clash : Ledger → Event → Found
 clash s e = firstClash (s .table) (e .number)
 
-module _ (s : State) (e : Event) (P : List ℕ → Type 0) where
+module _ (s : Ledger) (e : Event) (P : List ℕ → Type 0) where
   judged-base :
       (found : Found) → P (s .base) → (isClear found ≡ true → eqb (parentIn s e) 0 ≡ true → P (copies s e basePlace (s .base))) →
       P (judged s (e .number) found .after .base)
   unfolding judged committedUnder
-  judged-base none same copied = cond-holds P (eqb (parentIn s e) 0) (copied refl) (λ _. same)
-  judged-base (at t k) same copied = same
+  judged-base Nothing same copied = cond-holds P (eqb (parentIn s e) 0) (copied refl) (λ _. same)
+  judged-base (At t k) same copied = same
 
   judged-shadow :
       (found : Found) → P (s .shadow) →
       (isClear found ≡ true → eqb (parentIn s e) 0 ≡ false → P (copies s e (shadowPlace (parentIn s e)) (s .shadow))) →
       P (judged s (e .number) found .after .shadow)
   unfolding judged committedUnder
-  judged-shadow none same copied = cond-holds P (eqb (parentIn s e) 0) (λ _. same) (copied refl)
-  judged-shadow (at t k) same copied = same
+  judged-shadow Nothing same copied = cond-holds P (eqb (parentIn s e) 0) (λ _. same) (copied refl)
+  judged-shadow (At t k) same copied = same
 
   pub base-after :
       P (s .base) →
@@ -128,7 +131,7 @@ outside-copied w n place i h k hk written =
     let notHere = not-any-at (λ j. hasWritten w n j && isInCard (place j) i) 0 accountCount k h (account-within hk) in
     outside-card (place k) i (and-fails (hasWritten w n k) (isInCard (place k) i) .0 notHere written)
 
-module _ (s : State) (e : Event) (a : AllowedIn s e) where
+module _ (s : Ledger) (e : Event) (a : AllowedIn s e) where
   number-few : e .number ≤ mostActions
   number-few = omega (arith, a .numberKnown, facts (s .table) (a .soundTest) .few)
 
@@ -138,7 +141,7 @@ module _ (s : State) (e : Event) (a : AllowedIn s e) where
   store-line : Line basePlace (s .base)
   store-line = base-line (s .base) (a .baseFits)
 
-  -- "each started action's parent is below its own number", so that the parent's cards have a place too
+  -- a parent is below its child, so that its cards have a place too
   parent-line : isCommitting (s .table) e ≡ true → Line (shadowPlace (parentIn s e)) (s .shadow)
   parent-line committing =
       let no-start = commit-no-start e (and-left (isCommit e) _ committing) in
@@ -171,11 +174,11 @@ module _ (s : State) (e : Event) (a : AllowedIn s e) where
 
 -- ---- lengths
 
-pub record SameLengths (s t : State) : Type 0 where
+pub record SameLengths (s t : Ledger) : Type 0 where
   pub ofBase : length (t .base) ≡ length (s .base)
   pub ofShadow : length (t .shadow) ≡ length (s .shadow)
 
-pub lengths-kept : (s : State) (e : Event) → SameLengths s (step s e .after)
+pub lengths-kept : (s : Ledger) (e : Event) → SameLengths s (step s e .after)
 lengths-kept s e =
     record {
       ofBase =
@@ -187,7 +190,7 @@ lengths-kept s e =
           (λ a committing _. copies-length s e a (shadowPlace (parentIn s e)) (s .shadow) (parent-line s e a committing));
     }
 
-pub run-lengths-kept : (s : State) (es : List Event) → SameLengths s (run s es .after)
+pub run-lengths-kept : (s : Ledger) (es : List Event) → SameLengths s (run s es .after)
 unfolding run
 run-lengths-kept s [] = record { ofBase = refl; ofShadow = refl }
 run-lengths-kept s (e ∷ es) =
@@ -195,10 +198,10 @@ run-lengths-kept s (e ∷ es) =
     let rest = run-lengths-kept (step s e .after) es in
     record { ofBase = rest .ofBase ∙ one .ofBase; ofShadow = rest .ofShadow ∙ one .ofShadow }
 
--- ---- bytes: "No other byte of either store changes."
+-- ---- RULES 2.7: bytes
 
 pub base-untouched :
-    (s : State) (e : Event) (i : ℕ) → mayChangeBase (s .table) e i ≡ false → getD (step s e .after .base) i 0 ≡ getD (s .base) i 0
+    (s : Ledger) (e : Event) (i : ℕ) → mayChangeBase (s .table) e i ≡ false → getD (step s e .after .base) i 0 ≡ getD (s .base) i 0
 unfolding mayChangeBase
 base-untouched s e i may =
     base-after s e (λ t. getD t i 0 ≡ getD (s .base) i 0) refl
@@ -208,7 +211,7 @@ base-untouched s e i may =
     not-copied = and-fails (isCommitting (s .table) e && eqb (parentIn s e) 0) (isCopied (s .table) (e .number) basePlace i) .0 may
 
 pub shadow-untouched :
-    (s : State) (e : Event) (i : ℕ) → mayChangeShadow (s .table) e i ≡ false →
+    (s : Ledger) (e : Event) (i : ℕ) → mayChangeShadow (s .table) e i ≡ false →
     getD (step s e .after .shadow) i 0 ≡ getD (s .shadow) i 0
 unfolding mayChangeShadow
 shadow-untouched s e i may =

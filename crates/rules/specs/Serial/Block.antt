@@ -1,9 +1,8 @@
--- An action's block: "its own reads and writes in the order of S, with the whole block of each child that committed
--- standing at the event of that child's commit". The block of number 0, the store, holds the topactions' blocks "in the
--- order of their commits in S". Assumes nothing.
+-- RULES 6.4: an action's block. The block of number 0, the store, holds those of the topactions that committed, in the order
+-- of their commits. Assumes nothing.
 use Prim.Native.Nat.{ℕ}
 
--- A block grows at its end, event by event. A place is the index of the event in S.
+-- A block grows at its end, event by event. A place is the index of an event in S; `whole` is a child's block.
 pub data Block (E : Type 0) : Type 0 where
   empty : Block E
   read : (before : Block E) (place account : ℕ) → Block E

@@ -1,4 +1,5 @@
--- The blocks, from S and the answers that S got; of the table and the stores nothing is known here. Assumes nothing.
+-- RULES 6.1, 6.2 and 6.4: the blocks, from S and the answers that S got; nothing is known here of table or stores.
+-- Assumes nothing.
 use Prim.Native.Nat.{ℕ, suc}
 use mathlib.Core.Bool.{cond}
 use mathlib.Core.Option.{some}
@@ -19,18 +20,18 @@ pub record Known : Type 0 where
   pub parent : ℕ → ℕ
   pub block : ℕ → Block Effect
 
--- "which number each start gave, the parent being the one that start named"
+-- action n begins under p
 abbrev pub begun : Known → ℕ → ℕ → Known
 begun c n p = record { parent = put (c .parent) n p; block = put (c .block) n empty }
 
--- "each child that committed": its block is taken out and stands, whole, at the end of its parent's
+-- action n commits at place i: its block is taken out and stands, whole, at the end of its parent's
 abbrev pub laid : ℕ → Known → ℕ → Known
 laid i c n =
     let p = c .parent n in
     let rest = put (c .block) n empty in
     record { parent = c .parent; block = put rest p (child (rest p) i n (c .block n)) }
 
--- "who committed: an action did exactly when a commit of it was answered committed, and at that event"; a list, in order
+-- who commits at an event, as a list in the order of the commits
 unfoldable pub commitsAt : Event → Answer → List ℕ
 commitsAt e (Committed t) = e .number ∷ []
 commitsAt e (Started n) = []
@@ -44,7 +45,7 @@ unfoldable pub laidAll : ℕ → Known → List ℕ → Known
 laidAll i c [] = c
 laidAll i c (n ∷ ns) = laidAll i (laid i c n) ns
 
--- an action's own step at place i; "The answers tell it which events were refused (these are no step of any action)"
+-- an action's own step at place i: a start, a read or a write, where the answer says that it took place
 unfoldable pub stepped : ℕ → Event → Answer → Known → Known
 stepped i e (Started n) c = begun c n (e .number)
 stepped i e (Read v) c =

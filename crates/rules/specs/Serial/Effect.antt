@@ -1,5 +1,4 @@
--- What an action has done to an account: it has put a card of its own there, or none. Request 2 lets an effect add as well
--- and touches this file. Assumes nothing.
+-- What an action has done to an account: it has put a card of its own there, or none. Assumes nothing.
 use Prim.Native.Nat.{ℕ}
 use mathlib.Core.Option.{Option, none, some}
 use mathlib.Core.List.{List}

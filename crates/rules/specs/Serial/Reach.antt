@@ -1,6 +1,5 @@
--- R, on its own from S and the answers: "the actions that committed all the way up". An action's number is followed on
--- through S: where it commits its parent is followed from there, and it is in R when the end of S is reached at the
--- store. Assumes nothing.
+-- RULES 6.3: R, from S and the answers alone, without blocks. An action's number is followed on through S: where it commits
+-- its parent is followed from there, and it is in R where the end of S is reached at the store. Assumes nothing.
 use Prim.Native.Nat.{ℕ, suc}
 use mathlib.Core.Bool.{Bool, true, false, cond, _&&_}
 use mathlib.Core.Option.{Option, none, some}
@@ -12,7 +11,7 @@ use Rattle.rules.specs.Event.{Event}
 use Rattle.rules.specs.Serial.Effect.{Effect}
 use Rattle.rules.specs.Serial.Block.{Block, empty, read, write, child}
 use Rattle.rules.specs.Serial.Collect.{put, commitsAt}
-use Rattle.rules.specs.Serial.Steps.{Step, begins, reads, writes, ends}
+use Rattle.rules.specs.Serial.Schedule.{Operation, begins, reads, writes, ends}
 
 -- the parents, after an event
 unfoldable pub parentsAfter : Event → Answer → (ℕ → ℕ) → ℕ → ℕ
@@ -24,7 +23,7 @@ parentsAfter e (Failed t k) parent = parent
 parentsAfter e (Aborted n) parent = parent
 parentsAfter e (Refused n) parent = parent
 
--- the number that an event gives away
+-- the answer gives number n to a new action
 unfoldable pub isGivenTo : Answer → ℕ → Bool
 isGivenTo (Started m) n = eqb n m
 isGivenTo (Read v) n = false
@@ -39,8 +38,8 @@ unfoldable pub movedUp : (ℕ → ℕ) → List ℕ → ℕ → ℕ
 movedUp parent [] n = n
 movedUp parent (c ∷ cs) n = movedUp parent cs (cond (eqb n c) (parent n) n)
 
--- Action n, or number 0 for the store, followed through what is left of S: is the end reached at the store? A number
--- that is given to another action was not committed all the way up.
+-- action n, or 0 for the store, followed through what is left of S: is the end reached at the store? An action whose number
+-- is given to another before that is not in R
 unfoldable pub reachesStore : (ℕ → ℕ) → List Event → List Answer → ℕ → Bool
 reachesStore parent [] answers n = eqb n 0
 reachesStore parent (e ∷ es) [] n = eqb n 0
@@ -84,8 +83,8 @@ abbrev pub roundIt : List ℕ → List ℕ
 roundIt [] = []
 roundIt (n ∷ round) = round
 
--- the reads and writes among the steps of a serial run; the actions under way say whose each one is
-unfoldable pub actsIn : List ℕ → List (Step Effect) → List Act
+-- the reads and writes among operations; the actions under way say whose each one is
+unfoldable pub actsIn : List ℕ → List (Operation Effect) → List Act
 actsIn under [] = []
 actsIn under (begins who ∷ xs) = actsIn (who ∷ under) xs
 actsIn under (reads i k ∷ xs) = record { place = i; who = innermost under; account = k; effect = none } ∷ actsIn under xs
@@ -97,8 +96,8 @@ unfoldable pub atPlace : ℕ → List Act → List Act
 atPlace i [] = []
 atPlace i (x ∷ xs) = let later = atPlace i xs in cond (eqb (x .place) i) (x ∷ later) later
 
--- The steps of a block stand in the order of S, all before place t: its own reads and writes and its children's commits,
--- and each child's steps before its commit.
+-- the operations of a block stand in the order of S, all before place t: what the action did itself, its children's commits,
+-- and each child's operations before its commit
 unfoldable pub inOrder : {E : Type 0} → ℕ → Block E → Bool
 inOrder t empty = true
 inOrder t (read b i k) = ltb i t && inOrder i b

@@ -19,7 +19,7 @@ abbrev μ-loop : tie.MeasureT-loop
 μ-loop table₀ i₀ table i = tableLength - i
 
 returns : tie.Need-returns Inv-loop μ-loop
-returns c = rw (ne-eqb _ 4355 (c .if1 .taken)) (refl, refl)
+returns c = rw (ne-eqb _ tableLength (c .if1 .taken)) (refl, refl)
 
 loop-holds : tie.Need-loop-holds Inv-loop μ-loop
 loop-holds c = search needs

@@ -2,11 +2,9 @@
 use native.Mathlib.Omega.{arith}
 use mathlib.Core.Path.{refl, sym, ap, _∙_}
 use borrow.Author.Needs.{needs}
-use Rattle.rules.specs.Table.{started, counter}
-use Rattle.rules.specs.Step.{State}
-use Rattle.engine.specs.Promise.{stateOf}
-use Rattle.dayfile.proofs.Faultless.{faultless}
-use Rattle.dayfile.proofs.Days.{accepts, day-refused, day-runs, day-lines}
+use Rattle.rules.specs.Ledger.{Ledger, ledgerOf}
+use Rattle.dayread.proofs.Faultless.{faultless}
+use Rattle.dayfile.proofs.Days.{accepts, day-refused, day-runs, day-lines, day-given}
 use Rattle.dayfile.proofs.day.day.Statement.{statement}
 use Rattle.dayfile.proofs.day.day.Tie as tie
 
@@ -29,8 +27,10 @@ returns : tie.Need-returns
 returns c =
     let asked = c .before .before .before in
     let given = asked .before .before .before .before .before .before .before .before .args in
-    let refused = day-refused (stateOf (given .table .now) (given .base .now) (given .shadow .now)) (given .file .now) (asked .day-cause .ensures) (c .before .before .if1 .taken) in
-    rw (refused .0, refused .1) (c .put-refused .ensures .0, (c .put-refused .ensures .1, refl))
+    let s = ledgerOf (given .table .now) (given .base .now) (given .shadow .now) in
+    let refused = day-refused s (given .file .now) (asked .day-cause .ensures) (c .before .before .if1 .taken) in
+    day-given s (given .file .now) (given .out .now)
+    (rw (refused .0) (c .put-refused .ensures .0)) (rw (refused .0) (c .put-refused .ensures .1)) (rw (refused .1))
 
 slice-aggregate-run-file : tie.Need-slice-aggregate-run-file
 slice-aggregate-run-file c = search needs
@@ -66,11 +66,15 @@ returns-2 c =
     let clear = ran .before .before .before .before .before in
     let given = clear .before .before .before .before .before .before .before .before .before .args in
     let none = sym (clear .before .day-cause .ensures) ∙ clear .if1 .left in
-    let s = stateOf (given .table .now) (given .base .now) (given .shadow .now) in
+    let s = ledgerOf (given .table .now) (given .base .now) (given .shadow .now) in
     let runs = day-runs s (given .file .now) none in
-    let leaves = ran .run-file .ensures .1 .0 in
-    let lines = day-lines s (given .file .now) _ (accepts _ _ none) (ran .run-file .ensures .1 .1) (ran .run-file .ensures .0) (ap (λ (after : State). started (after .table)) leaves) (ap (λ (after : State). counter (after .table)) leaves) in
-    rw (runs .0, runs .1, sym lines) (c .put-listing .ensures .0, (c .put-listing .ensures .1, leaves))
+    let (count, (leaves, words)) = ran .run-file .ensures in
+    let table = ap (λ (after : Ledger). after .table) leaves in
+    let lines = day-lines s (given .file .now) _ (accepts _ _ none) words count table in
+    day-given s (given .file .now) (given .out .now)
+    (rw (runs .0, sym lines) (c .put-listing .ensures .0))
+    (rw (runs .0, sym lines) (c .put-listing .ensures .1))
+    (rw (runs .1) leaves)
 
 pub day-spec : {M : Type 1} → statement M
 day-spec =

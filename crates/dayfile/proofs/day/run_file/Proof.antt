@@ -3,7 +3,7 @@
 use native.Mathlib.Omega.{arith}
 use mathlib.Core.Path.{_∙_}
 use borrow.Author.Needs.{needs}
-use Rattle.dayfile.proofs.Faultless.{faultless}
+use Rattle.dayread.proofs.Faultless.{faultless}
 use Rattle.dayfile.proofs.Days.{events-part, file-ran}
 use Rattle.dayfile.proofs.day.run_file.Statement.{statement}
 use Rattle.dayfile.proofs.day.run_file.Tie as tie
@@ -68,8 +68,7 @@ returns c =
           (based .open-base .ensures)
           (based .open-base .kept .1 .0 ∙ a .baseFits)
           (events-part (given .args .file .now) _ (placed .events-at .ensures))
-          (listed .run .ensures .1 .0)
-          (listed .run .ensures .1 .1),
+          (listed .run .ensures),
     )
 
 pub run-file-spec : {M : Type 1} → statement M

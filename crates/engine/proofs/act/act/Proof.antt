@@ -1,4 +1,4 @@
--- `engine::act::act` meets its contract: an event with no cause to be refused is allowed, and so its code's function has what it
+-- `act` meets its contract: an event with no cause to be refused is allowed, and so its code's function has what it
 -- asks for and gives what `act` makes of that code. Assumes nothing.
 use native.Mathlib.Omega.{arith}
 use mathlib.Core.Logic.{_≢_}
@@ -10,7 +10,7 @@ use Rattle.rules.specs.Step.{start, read, write, abort, act}
 use Rattle.rules.proofs.Laws.Tests.{or-inl, or-inr}
 use Rattle.rules.proofs.Laws.Causes.{Allowed, allowed}
 use Rattle.rules.proofs.Sound.Soundness.{facts}
-use Rattle.engine.specs.Promise.{eventOf}
+use Rattle.rules.specs.Event.{eventOf, startCode, readCode, writeCode, commitCode}
 use Rattle.engine.proofs.act.act.Statement.{statement}
 use Rattle.engine.proofs.act.act.Tie as tie
 
@@ -24,14 +24,14 @@ event-allowed c = allowed _ _ _ _ (c .pre)
 table-sound : (c : tie.Start) → Sound (c .args .table .now)
 table-sound c = facts _ (event-allowed c .soundTest)
 
-own-number : (c : tie.Start) → c .args .code ≢ 1 → IsStarted (c .args .table .now) (c .args .number)
-own-number c other = (event-allowed c .named (ne-eqb _ 1 other), event-allowed c .numberKnown)
+own-number : (c : tie.Start) → c .args .code ≢ startCode → IsStarted (c .args .table .now) (c .args .number)
+own-number c other = (event-allowed c .named (ne-eqb _ startCode other), event-allowed c .numberKnown)
 
 start-requires : tie.Need-start-requires
 start-requires c κs =
     let entry = c .before .before .before .before .before .before in
     let sound = table-sound entry in
-    (record { long = sound .long; few = sound .few }, event-allowed entry .room (eq-eqb _ 1 (c .before .if1 .taken)))
+    (record { long = sound .long; few = sound .few }, event-allowed entry .room (eq-eqb _ startCode (c .before .if1 .taken)))
 
 same-length : tie.Need-same-length
 same-length c = search needs
@@ -52,7 +52,7 @@ read-requires c κs =
     record {
       sound = table-sound entry;
       known = event .numberKnown;
-      account = event .accountKnown (or-inl _ (eq-eqb _ 2 (c .before .if2 .taken)));
+      account = event .accountKnown (or-inl _ (eq-eqb _ readCode (c .before .if2 .taken)));
     }
 
 same-length-2 : tie.Need-same-length-2
@@ -72,10 +72,13 @@ write-requires c κs =
     let entry = c .before .before .before .before .before .before .before .before .before in
     let event = event-allowed entry in
     let sound = table-sound entry in
-    let writes = eq-eqb _ 3 (c .before .before .if3 .taken) in
+    let writes = eq-eqb _ writeCode (c .before .before .if3 .taken) in
     let own = own-number entry (c .before .before .before .before .if1 .left) in (
       record { long = sound .long; known = omega arith },
-      ((own .0, event .accountKnown (or-inr (eqb (entry .args .code) 2) writes)), (event .shadowFits, event .cardFits writes)),
+      (
+        ((own .0, omega (arith, own, sound .few)), event .accountKnown (or-inr (eqb (entry .args .code) readCode) writes)),
+        (event .shadowFits, event .cardFits writes),
+      ),
     )
 
 same-length-3 : tie.Need-same-length-3
@@ -131,10 +134,10 @@ returns-5 : tie.Need-returns-5
 unfolding act abort
 returns-5 c =
     rw (
-      ne-eqb _ 1 (c .before .before .before .before .before .before .before .if1 .left),
-      ne-eqb _ 2 (c .before .before .before .before .before .before .if2 .left),
-      ne-eqb _ 3 (c .before .before .before .before .before .if3 .left),
-      ne-eqb _ 4 (c .before .before .before .before .if4 .left),
+      ne-eqb _ startCode (c .before .before .before .before .before .before .before .if1 .left),
+      ne-eqb _ readCode (c .before .before .before .before .before .before .if2 .left),
+      ne-eqb _ writeCode (c .before .before .before .before .before .if3 .left),
+      ne-eqb _ commitCode (c .before .before .before .before .if4 .left),
       c .before .before .abort .ensures .0,
       c .before .before .abort .ensures .1,
     )

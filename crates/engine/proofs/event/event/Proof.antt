@@ -1,4 +1,4 @@
--- `engine::event::event` meets its contract: causes 1 and 2 come first, and where neither applies the stores fit and the table is
+-- `event` meets its contract: causes 1 and 2 come first, and where neither applies the stores fit and the table is
 -- sound. Assumes nothing.
 use Prim.Native.Nat.{ℕ}
 use mathlib.Core.Path.{_≡_, ap}
@@ -8,9 +8,10 @@ use borrow.Author.Tests.{ne-eqb}
 use Rattle.rules.specs.declared.Answer.{Answer}
 use Rattle.rules.specs.Answer.{said}
 use Rattle.rules.specs.Cause.{causeOf}
-use Rattle.rules.specs.Step.{Outcome, step}
-use Rattle.engine.specs.Promise.{eventOf, outcomeOf, Gives}
-use Rattle.engine.proofs.Causes.{stores-accepted, event-refused}
+use Rattle.rules.specs.Step.{Outcome, step, outcomeOf}
+use Rattle.rules.specs.Event.{eventOf}
+use Rattle.engine.specs.Promise.{Gives}
+use Rattle.causes.proofs.Grouped.{stores-accepted, event-refused}
 use Rattle.engine.proofs.event.event.Statement.{statement}
 use Rattle.engine.proofs.event.event.Tie as tie
 

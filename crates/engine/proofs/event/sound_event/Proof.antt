@@ -1,4 +1,4 @@
--- `engine::event::sound_event` meets its contract: over a sound table and stores that fit, an event's cause is the one that is
+-- `sound_event` meets its contract: over a sound table and stores that fit, an event's cause is the one that is
 -- asked here. Assumes nothing.
 use Prim.Native.Nat.{ℕ}
 use mathlib.Core.Path.{_≡_, _∙_}
@@ -6,8 +6,8 @@ use borrow.Author.Needs.{needs}
 use borrow.Author.Tests.{ne-eqb}
 use Rattle.rules.specs.Cause.{causeOf}
 use Rattle.rules.specs.Step.{step}
-use Rattle.engine.specs.Promise.{eventOf}
-use Rattle.engine.proofs.Causes.{event-asked}
+use Rattle.rules.specs.Event.{eventOf}
+use Rattle.causes.proofs.Grouped.{event-asked}
 use Rattle.engine.proofs.event.sound_event.Statement.{statement}
 use Rattle.engine.proofs.event.sound_event.Tie as tie
 

@@ -1,4 +1,4 @@
--- `engine::look::look` meets its contract: its causes are those of a read, and where there is none the nearest version is a whole
+-- `look` meets its contract: its causes are those of a read, and where there is none the nearest version is a whole
 -- card inside one of the stores. Assumes nothing.
 use Prim.Native.Nat.{ℕ, _+_, _-_, _≤_}
 use native.Mathlib.Omega.{arith}
@@ -16,7 +16,7 @@ use Rattle.rules.proofs.Laws.Causes.{Allowed, allowed}
 use Rattle.rules.proofs.Laws.Walking.{nearest-started}
 use Rattle.rules.proofs.Sound.Soundness.{facts}
 use Rattle.rules.proofs.Stores.Looking.{look-refused-as-read, look-refused, look-given}
-use Rattle.engine.proofs.Causes.{Accepted, stores-accepted, event-refused, event-asked}
+use Rattle.causes.proofs.Grouped.{Accepted, stores-accepted, event-refused, event-asked}
 use Rattle.engine.proofs.look.look.Statement.{statement}
 use Rattle.engine.proofs.look.look.Tie as tie
 
@@ -28,7 +28,7 @@ refused w base shadow n k cause is given =
     rw (look-refused w base shadow n k (λ none. given (sym is ∙ none))) (sym is, refl)
 
 -- a part of 32 bytes has a card's length, wherever it starts
-card-size : (from : ℕ) → from + 32 - from ≡ cardLength
+card-size : (from : ℕ) → from + cardLength - from ≡ cardLength
 card-size from = omega arith
 
 store-cause-requires : tie.Need-store-cause-requires
@@ -112,11 +112,11 @@ nearest-requires c κs =
     let read = read-allowed c in
     record { sound = facts _ (read .soundTest); known = read .numberKnown; account = read .accountKnown refl }
 
-mul-from : tie.Need-mul-from
-mul-from c = omega (arith, read-allowed (c .before .before) .accountKnown refl)
+base-place-requires : tie.Need-base-place-requires
+base-place-requires c κs = omega (arith, read-allowed (c .before .before) .accountKnown refl)
 
 add-to : tie.Need-add-to
-add-to c = omega (arith, read-allowed (c .before .before) .accountKnown refl)
+add-to c = omega (arith, c .base-place .ensures, read-allowed (c .before .before .before) .accountKnown refl)
 
 sub-result-3 : tie.Need-sub-result-3
 sub-result-3 c = search needs
@@ -126,14 +126,26 @@ part-result-start-3 c = search needs
 
 part-result-end-3 : tie.Need-part-result-end-3
 part-result-end-3 c =
-    omega (arith, read-allowed (c .before .before) .accountKnown refl, read-allowed (c .before .before) .baseFits)
+    omega (
+      arith,
+      c .base-place .ensures,
+      read-allowed (c .before .before .before) .accountKnown refl,
+      read-allowed (c .before .before .before) .baseFits,
+    )
 
 returns-3 : tie.Need-returns-3
 returns-3 c =
-    let args = c .before .before .before .before .before .before .before .before .before .before .before .args in
-    let none = cause-asked (c .before .before .before .before) ∙ c .before .before .before .if2 .left in
-    let top : nearest (args .table .now) (args .n) (args .k) ≡ 0 = sym (c .before .before .nearest .ensures) ∙ c .before .if3 .taken in
-    rw (look-given (args .table .now) (args .base .now) (args .shadow .now) (args .n) (args .k) none, top, card-size) (refl, refl)
+    let args = c .before .before .before .before .before .before .before .before .before .before .before .before .args in
+    let none = cause-asked (c .before .before .before .before .before) ∙ c .before .before .before .before .if2 .left in
+    let found = c .before .before .before .nearest in
+    let top : nearest (args .table .now) (args .n) (args .k) ≡ 0 = sym (found .ensures) ∙ c .before .before .if3 .taken in
+    rw (
+      look-given (args .table .now) (args .base .now) (args .shadow .now) (args .n) (args .k) none,
+      top,
+      c .before .base-place .ensures,
+      card-size,
+    )
+    (refl, refl)
 
 shadow-place-requires : tie.Need-shadow-place-requires
 shadow-place-requires c κs =
@@ -195,7 +207,7 @@ look-spec =
     part-result-end-2
     returns-2
     nearest-requires
-    mul-from
+    base-place-requires
     add-to
     sub-result-3
     part-result-start-3

@@ -1,0 +1,18 @@
+//! The numbers of the causes (docs/RULES.md, 8.1, 9.2 and 11).
+
+pub const NONE: u64 = 0;
+pub const STORE_LENGTH: u64 = 1;
+pub const UNSOUND: u64 = 2;
+pub const CODE: u64 = 3;
+pub const NUMBER: u64 = 4;
+pub const NOT_LIVE: u64 = 5;
+pub const TABLE_FULL: u64 = 6;
+pub const ACCOUNT: u64 = 7;
+pub const CARD_LENGTH: u64 = 8;
+pub const CHILD_LIVE: u64 = 9;
+/// Of a day file or a list of events.
+pub const LENGTH: u64 = 10;
+/// A day file's count above its limit.
+pub const COUNT: u64 = 11;
+/// A day file's opening accounts.
+pub const OPENING: u64 = 12;

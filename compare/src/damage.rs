@@ -1,0 +1,117 @@
+//! Damage to tables and stores.
+
+use crate::header::*;
+use crate::library::{Lent, ABORTED, COMMITTED, COUNTER, END, LIVE, PARENT, READS, STARTED, STATE, WRITES};
+use crate::random::Random;
+
+/// A fault, or something that looks like one and that docs/RULES.md leaves free.
+#[derive(Clone, Copy)]
+pub enum Damage {
+    BaseLength,
+    ShadowLength,
+    TableLength,
+    Started,
+    Counter,
+    UnusedHead,
+    UnusedRow,
+    NoState,
+    ParentNotBelow,
+    OtherParent,
+    OtherState,
+    LateRead,
+    EndTime,
+    WriteEntry,
+    EndTimeTwice,
+}
+
+use Damage::*;
+
+/// Those that make a part's length wrong.
+pub const LENGTHS: [Damage; 3] = [BaseLength, ShadowLength, TableLength];
+
+/// All of them.
+pub const DAMAGES: [Damage; 15] = [
+    BaseLength,
+    ShadowLength,
+    TableLength,
+    Started,
+    Counter,
+    UnusedHead,
+    UnusedRow,
+    NoState,
+    ParentNotBelow,
+    OtherParent,
+    OtherState,
+    LateRead,
+    EndTime,
+    WriteEntry,
+    EndTimeTwice,
+];
+
+/// Lengths that are not those of the stores and of a table.
+const BASE_LENGTHS: [usize; 6] = [0, 1, BASE_BYTES - CARD_BYTES, BASE_BYTES - 1, BASE_BYTES + 1, 2 * BASE_BYTES];
+const SHADOW_LENGTHS: [usize; 6] = [0, 1, BASE_BYTES, SHADOW_BYTES - 1, SHADOW_BYTES + 1, SHADOW_BYTES + BASE_BYTES];
+const TABLE_LENGTHS: [usize; 7] =
+    [0, COUNTER, COUNTER + 1, ROW_WORDS, TABLE_WORDS - 1, TABLE_WORDS + 1, TABLE_WORDS + ROW_WORDS];
+/// What a store is filled up with where it grows.
+const FILL: u8 = 7;
+
+fn row(words: &mut [u64], n: u64) -> &mut [u64] {
+    let from = ROW_WORDS * n as usize;
+    &mut words[from..from + ROW_WORDS]
+}
+
+/// A number near a limit, or far beyond it.
+fn beyond(r: &mut Random, limit: u64) -> u64 {
+    if r.one_in(3) {
+        r.next().max(limit)
+    } else {
+        limit.saturating_add(r.below(3))
+    }
+}
+
+pub fn damage(r: &mut Random, kind: Damage, lent: &mut Lent) {
+    match kind {
+        BaseLength => lent.base.resize(*r.pick(&BASE_LENGTHS), FILL),
+        ShadowLength => lent.shadow.resize(*r.pick(&SHADOW_LENGTHS), FILL),
+        TableLength => lent.table.resize(*r.pick(&TABLE_LENGTHS), 0),
+        _ if lent.table.len() != TABLE_WORDS => {}
+        Started => lent.table[STARTED] = beyond(r, ACTIONS as u64 + 1),
+        Counter => lent.table[COUNTER] = beyond(r, lent.table[COUNTER].saturating_add(1)),
+        UnusedHead => lent.table[COUNTER + 1 + r.below((ROW_WORDS - COUNTER - 1) as u64) as usize] = r.next(),
+        UnusedRow => damage_unused_row(r, &mut lent.table),
+        _ => damage_action(r, kind, &mut lent.table),
+    }
+}
+
+fn damage_unused_row(r: &mut Random, words: &mut [u64]) {
+    let started = words[STARTED].min(ACTIONS as u64);
+    let above = started + 1 + r.below(3);
+    if above <= ACTIONS as u64 {
+        row(words, above).fill_with(|| r.next());
+    }
+}
+
+fn damage_action(r: &mut Random, kind: Damage, words: &mut [u64]) {
+    let started = words[STARTED].min(ACTIONS as u64);
+    if started == 0 {
+        return;
+    }
+    let counter = words[COUNTER];
+    let n = 1 + r.below(started);
+    let k = r.below(ACCOUNTS as u64) as usize;
+    match kind {
+        NoState => row(words, n)[STATE] = *r.pick(&[0, ABORTED + 1, ABORTED + 2, u64::MAX]),
+        ParentNotBelow => row(words, n)[PARENT] = beyond(r, n),
+        OtherParent => row(words, n)[PARENT] = r.below(n),
+        OtherState => row(words, n)[STATE] = *r.pick(&[LIVE, COMMITTED, ABORTED]),
+        LateRead => row(words, n)[READS + k] = beyond(r, counter.saturating_add(1)),
+        EndTime => row(words, n)[END] = if r.one_in(2) { 0 } else { beyond(r, counter) },
+        WriteEntry => row(words, n)[WRITES + k] = 2 + r.below(9),
+        _ => {
+            let other = 1 + r.below(started);
+            let end = row(words, other)[END];
+            row(words, n)[END] = end;
+        }
+    }
+}

@@ -1,0 +1,2 @@
+-- Both hold.
+pub mod Cases

@@ -1,0 +1,133 @@
+-- RULES 12: the worked cases that are proved, in one list; proofs/Cases.antt proves all of them by one theorem.
+-- Assumes nothing.
+use Prim.Native.Nat.{ℕ}
+use mathlib.Core.List.{List, [], _∷_, map}
+use lib.ListN.{replicate}
+use Rattle.rules.specs.declared.Answer.{Answer}
+use Rattle.rules.specs.declared.Answer.the-variants.{Started, Read, Written, Committed, Failed, Aborted, Refused}
+use Rattle.rules.specs.Card.{cardLength, baseLength, shadowLength, basePlace, cardAt}
+use Rattle.rules.specs.Table.{newTable, started, counter}
+use Rattle.rules.specs.Event.{Event, startUnder, readBy, writeBy, commitOf, abortOf}
+use Rattle.rules.specs.Look.{lookedCard}
+use Rattle.rules.specs.Ledger.{Ledger}
+use Rattle.rules.specs.Run.{run}
+
+-- a new table over stores of zeros
+abbrev pub opening : Ledger
+opening = record { table = newTable; base = replicate baseLength 0; shadow = replicate shadowLength 0 }
+
+-- a card of 32 bytes b
+abbrev pub filledWith : ℕ → List ℕ
+filledWith b = replicate cardLength b
+
+-- an action and an account to look at, once the events are done
+pub record Spot : Type 0 where
+  pub action : ℕ
+  pub account : ℕ
+
+-- what is asked of a case: its events, and which base cards and which looks to show after them
+pub record Question : Type 0 where
+  pub events : List Event
+  pub baseAccounts : List ℕ
+  pub spots : List Spot
+
+-- what it gives: every answer, the actions started, the counter, and the cards asked for
+pub record Result : Type 0 where
+  pub answers : List Answer
+  pub starts : ℕ
+  pub count : ℕ
+  pub baseCards : List (List ℕ)
+  pub looks : List (List ℕ)
+
+unfoldable pub resultOf : Question → Result
+resultOf q =
+    let ran = run opening (q .events) in
+    record {
+      answers = ran .answers;
+      starts = started (ran .after .table);
+      count = counter (ran .after .table);
+      baseCards = map (λ k. cardAt (ran .after .base) (basePlace k)) (q .baseAccounts);
+      looks = map (λ spot. lookedCard (ran .after .table) (ran .after .base) (ran .after .shadow) (spot .action) (spot .account)) (q .spots);
+    }
+
+pub record Case : Type 0 where
+  pub question : Question
+  pub expected : Result
+
+abbrev asking : List Event → List ℕ → List Spot → Question
+asking es ks spots = record { events = es; baseAccounts = ks; spots = spots }
+
+abbrev giving : List Answer → ℕ → ℕ → List (List ℕ) → List (List ℕ) → Result
+giving answers starts count baseCards looks =
+    record { answers = answers; starts = starts; count = count; baseCards = baseCards; looks = looks }
+
+abbrev case : Question → Result → Case
+case q r = record { question = q; expected = r }
+
+unfoldable pub cases : List Case
+cases =
+    -- 1
+    case (asking [] [] []) (giving [] 0 0 [] [])
+    -- 2
+    ∷ case
+    (asking (startUnder 0 ∷ commitOf 1 ∷ []) [] [])
+    (giving (Started 1 ∷ Committed 0 ∷ []) 1 0 [] [])
+    -- 3
+    ∷ case
+    (asking (startUnder 0 ∷ writeBy 1 5 (filledWith 7) ∷ commitOf 1 ∷ []) (5 ∷ []) [])
+    (giving (Started 1 ∷ Written ∷ Committed 1 ∷ []) 1 1 (filledWith 7 ∷ []) [])
+    -- 4
+    ∷ case
+    (asking
+    (startUnder 0 ∷ startUnder 0 ∷ readBy 1 0 ∷ readBy 2 0 ∷ writeBy 1 0 (filledWith 1) ∷ commitOf 1 ∷ commitOf 2 ∷ []) [] [])
+    (giving
+    (Started 1 ∷ Started 2 ∷ Read 0 ∷ Read 0 ∷ Written ∷ Committed 1 ∷ Failed 1 0 ∷ []) 2 1 [] [])
+    -- 5
+    ∷ case
+    (asking
+    (startUnder 0 ∷ startUnder 0 ∷ writeBy 1 0 (filledWith 1) ∷ writeBy 2 0 (filledWith 2) ∷ commitOf 1 ∷ commitOf 2 ∷ [])
+    (0 ∷ []) [])
+    (giving
+    (Started 1 ∷ Started 2 ∷ Written ∷ Written ∷ Committed 1 ∷ Committed 2 ∷ []) 2 2 (filledWith 2 ∷ []) [])
+    -- 6
+    ∷ case
+    (asking
+    (startUnder 0 ∷ writeBy 1 3 (filledWith 1) ∷ startUnder 1 ∷ readBy 2 3 ∷ writeBy 2 3 (filledWith 2) ∷ abortOf 2 ∷ readBy 1 3 ∷ [])
+    [] (record { action = 1; account = 3 } ∷ []))
+    (giving
+    (Started 1 ∷ Written ∷ Started 2 ∷ Read 1 ∷ Written ∷ Aborted 1 ∷ Read 1 ∷ []) 2 0 [] (filledWith 1 ∷ []))
+    -- 7
+    ∷ case
+    (asking (startUnder 0 ∷ startUnder 1 ∷ readBy 1 0 ∷ commitOf 1 ∷ []) [] [])
+    (giving (Started 1 ∷ Started 2 ∷ Refused 9 ∷ Refused 9 ∷ []) 2 0 [] [])
+    -- 8 and 8b
+    ∷ case
+    (asking
+    (startUnder 0 ∷ startUnder 1 ∷ startUnder 1 ∷ readBy 3 4 ∷ writeBy 2 4 (filledWith 1) ∷ commitOf 2 ∷ commitOf 3 ∷ []) [] [])
+    (giving
+    (Started 1 ∷ Started 2 ∷ Started 3 ∷ Read 0 ∷ Written ∷ Committed 1 ∷ Failed 1 4 ∷ []) 3 1 [] [])
+    ∷ case
+    (asking
+    (startUnder 0 ∷ startUnder 1 ∷ startUnder 1 ∷ writeBy 2 4 (filledWith 1) ∷ commitOf 2 ∷ readBy 3 4 ∷ commitOf 3 ∷ []) [] [])
+    (giving
+    (Started 1 ∷ Started 2 ∷ Started 3 ∷ Written ∷ Committed 1 ∷ Read 1 ∷ Committed 0 ∷ []) 3 1 [] [])
+    -- 9
+    ∷ case
+    (asking
+    (startUnder 0 ∷ startUnder 1 ∷ readBy 2 6 ∷ startUnder 0 ∷ writeBy 3 6 (filledWith 1) ∷ commitOf 3 ∷ startUnder 1 ∷ readBy 4 6
+    ∷ commitOf 2 ∷ commitOf 4 ∷ commitOf 1 ∷ []) [] [])
+    (giving
+    (Started 1 ∷ Started 2 ∷ Read 0 ∷ Started 3 ∷ Written ∷ Committed 1 ∷ Started 4 ∷ Read 0
+    ∷ Committed 0 ∷ Committed 0 ∷ Failed 1 6 ∷ []) 4 1 [] [])
+    -- 10
+    ∷ case
+    (asking (startUnder 0 ∷ startUnder 1 ∷ startUnder 2 ∷ abortOf 1 ∷ commitOf 2 ∷ []) [] [])
+    (giving (Started 1 ∷ Started 2 ∷ Started 3 ∷ Aborted 3 ∷ Refused 5 ∷ []) 3 0 [] [])
+    -- 13
+    ∷ case
+    (asking
+    (startUnder 0 ∷ startUnder 0 ∷ writeBy 1 2 (filledWith 1) ∷ readBy 1 2 ∷ writeBy 2 2 (filledWith 2) ∷ commitOf 2 ∷ commitOf 1 ∷ [])
+    [] [])
+    (giving
+    (Started 1 ∷ Started 2 ∷ Written ∷ Read 1 ∷ Written ∷ Committed 1 ∷ Failed 1 2 ∷ []) 2 1 [] [])
+    ∷ []

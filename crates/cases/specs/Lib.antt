@@ -1,0 +1,3 @@
+-- The worked cases, and a serial run worked through.
+pub mod Case
+pub mod Example

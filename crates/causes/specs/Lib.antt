@@ -1,0 +1,2 @@
+-- The causes that are asked together.
+pub mod Groups

@@ -1,0 +1,2 @@
+-- Facts that the proofs of a commit use.
+mod CommitCopies

@@ -1,0 +1,60 @@
+// The commit of an action: judged, and passed or failed.
+ghost use mathlib.Core.Path.{_≡_};
+ghost use Rattle.rules.specs.Card.{StoresFit};
+ghost use Rattle.rules.specs.Table.{parentOf};
+ghost use Rattle.rules.specs.Ledger.{ledgerOf};
+ghost use Rattle.rules.specs.Sound.{IsStarted, Sound};
+ghost use Rattle.rules.specs.Step.{outcomeOf, commitTime, committedUnder, commit};
+use crate::copy::copy_cards;
+use crate::end::end;
+use rows::fields::parent;
+use rows::fields::set_state;
+use rows::sets::join_sets;
+use rules::Answer;
+use rules::Found;
+use rules::table::ABORTED;
+use stores::cards::take_cards;
+use stores::place::cards_place;
+use validation::search::first_clash;
+
+// A commit that passes; back comes the end time.
+fn pass(table: &mut [u64], base: &mut [u8], shadow: &mut [u8], n: u64) -> u64
+    requires { ⌜ Sound (now table) ⌝ }
+    requires { ⌜ IsStarted (now table) n ⌝ }
+    requires { ⌜ StoresFit (now base) (now shadow) ⌝ }
+    ensures time { λ r. ⌜ r ≡ commitTime (now (table .entry)) n ⌝ }
+    ensures leaves { λ r. ⌜ ledgerOf (now (table .exit)) (now (base .exit)) (now (shadow .exit))
+        ≡ committedUnder (ledgerOf (now (table .entry)) (now (base .entry)) (now (shadow .entry))) n
+        (parentOf (now (table .entry)) n) ⌝ }
+{
+    let p = parent(table, n);
+    let cards = take_cards(shadow, n);
+    if p == 0 {
+        copy_cards(table, n, &cards, base, 0);
+        return end(table, n);
+    }
+    copy_cards(table, n, &cards, shadow, cards_place(p));
+    let time = end(table, n);
+    join_sets(table, n, p);
+    time
+}
+
+pub fn commit(table: &mut [u64], base: &mut [u8], shadow: &mut [u8], n: u64) -> Answer
+    requires { ⌜ Sound (now table) ⌝ }
+    requires { ⌜ IsStarted (now table) n ⌝ }
+    requires { ⌜ StoresFit (now base) (now shadow) ⌝ }
+    ensures { λ r. ⌜ outcomeOf r (now (table .exit)) (now (base .exit)) (now (shadow .exit))
+        ≡ commit (ledgerOf (now (table .entry)) (now (base .entry)) (now (shadow .entry))) n ⌝ }
+{
+    let found = first_clash(table, n);
+    match found {
+        Found::Nothing => {
+            let time = pass(table, base, shadow, n);
+            Answer::Committed(time)
+        }
+        Found::At(t, k) => {
+            set_state(table, n, ABORTED);
+            Answer::Failed(t, k)
+        }
+    }
+}

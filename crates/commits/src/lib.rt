@@ -1,0 +1,4 @@
+// The commit of an action: judged, and passed or failed.
+pub mod commit;
+mod copy;
+mod end;

@@ -1,0 +1,110 @@
+-- What holds between two turns of an abort's loop, which marks the table as it goes. Only states change, and each only as its
+-- action is passed; so the tests of the actions still to come are those of the table at entry. Assumes nothing.
+use Prim.Native.Nat.{ℕ, _+_, _-_, _≤_, _<_}
+use native.Mathlib.Nat.{le-refl}
+use native.Mathlib.Omega.{arith}
+use mathlib.Core.Path.{_≡_, refl, sym, ap, ap₂, _∙_}
+use mathlib.Core.Logic.{_≢_}
+use mathlib.Core.Bool.{true, false, cond, _&&_}
+use mathlib.Core.List.{List}
+use lib.Dec.{eqb}
+use lib.ListN.{length}
+use Rattle.rules.specs.Range.{upFrom, count, fold}
+use Rattle.rules.specs.Table.{width, live, aborted, startedField, parentField, stateField, word, started, parentOf, stateOf, withState, actions}
+use Rattle.rules.specs.Step.{isAbortedBy, abortTable}
+use Rattle.rules.proofs.Laws.Ranges.{count-at-most, count-left-here, count-left-next, count-left-done, fold-left-next, fold-left-done}
+use Rattle.rules.proofs.Laws.Walking.{atOrBelow-agree}
+use Rattle.rules.proofs.Laws.Words.{withWord-length, word-other-row, word-off-field}
+use Rattle.ancestry.specs.Ancestry.{ParentsBelow}
+
+-- what the abort of n in the table w does for action m
+abbrev pub mark : List ℕ → ℕ → ℕ → List ℕ → List ℕ
+mark w n m now = cond (isAbortedBy w n m) (withState now m aborted) now
+
+-- the started actions from m on
+abbrev pub ahead : List ℕ → ℕ → List ℕ
+ahead w m = upFrom m (started w + 1 - m)
+
+-- The abort of n in the table w has come to action m, with `found` aborted and v the table by now.
+pub record Reached (w : List ℕ) (n : ℕ) (v : List ℕ) (found m : ℕ) : Type 0 where
+  pub first : 1 ≤ m
+  pub long : length v ≡ length w
+  pub fields : (x g : ℕ) → g < width → g ≢ stateField → word v x g ≡ word w x g
+  pub states : (x : ℕ) → m ≤ x → stateOf v x ≡ stateOf w x
+  pub counted : count (isAbortedBy w n) (actions w) ≡ found + count (isAbortedBy w n) (ahead w m)
+  pub leaves : abortTable w n ≡ fold (mark w n) (ahead w m) v
+
+module _ (w : List ℕ) (n : ℕ) where
+  pub reached-first : Reached w n w 0 1
+  unfolding abortTable actions
+  reached-first =
+      let all : started w + 1 - 1 ≡ started w = omega arith in
+      record {
+        first = le-refl 1;
+        long = refl;
+        fields = λ x g hg ne. refl;
+        states = λ x h. refl;
+        counted = rw all (omega arith);
+        leaves = rw all;
+      }
+
+  module _ {v : List ℕ} {found m : ℕ} (r : Reached w n v found m) where
+    same-started : started v ≡ started w
+    same-started = r .fields 0 startedField (omega arith) (λ z. omega arith)
+
+    pub known-kept : m ≤ started w → m ≤ started v
+    known-kept h = omega (arith, same-started)
+
+    pub found-few : found ≤ started w
+    unfolding actions
+    found-few = omega (arith, r .counted, count-at-most (isAbortedBy w n) 1 (started w))
+
+    pub reached-last : started w + 1 ≤ m → (found ≡ count (isAbortedBy w n) (actions w)) × (v ≡ abortTable w n)
+    reached-last h = (
+      omega (arith, r .counted, count-left-done (isAbortedBy w n) m (started w + 1) h),
+      sym (r .leaves ∙ fold-left-done (mark w n) m (started w + 1) v h),
+    )
+
+    module _ (s : ParentsBelow w) where
+      same-parent : (x : ℕ) → parentOf v x ≡ parentOf w x
+      same-parent x = r .fields x parentField (omega arith) (λ z. omega arith)
+
+      pub parents-below-kept : ParentsBelow v
+      parents-below-kept =
+          record {
+            long = r .long ∙ s .long;
+            few = omega (arith, same-started, s .few);
+            below = λ x h. rw (same-parent x) (s .below x (omega (arith, same-started)));
+          }
+
+      test-kept : m ≤ started w → isAbortedBy v n m ≡ isAbortedBy w n m
+      test-kept h =
+          ap₂ _&&_ (ap (λ x. eqb x live) (r .states m (le-refl m)))
+          (atOrBelow-agree w (s .few) (s .below) v (λ x _. same-parent x) n m h)
+
+      -- action m is passed over, or it is marked
+      pub reached-over : m ≤ started w → isAbortedBy v n m ≡ false → Reached w n v found (m + 1)
+      reached-over h e =
+          let out = sym (test-kept h) ∙ e in
+          record {
+            first = omega arith;
+            long = r .long;
+            fields = r .fields;
+            states = λ x later. r .states x (omega arith);
+            counted = omega (arith, r .counted, count-left-next (isAbortedBy w n) m (started w + 1) (omega arith) out);
+            leaves = r .leaves ∙ fold-left-next (mark w n) m (started w + 1) v (omega arith) ∙ rw out;
+          }
+
+      pub reached-here : m ≤ started w → isAbortedBy v n m ≡ true → Reached w n (withState v m aborted) (found + 1) (m + 1)
+      reached-here h e =
+          let into = sym (test-kept h) ∙ e in
+          record {
+            first = omega arith;
+            long = withWord-length v m _ _ ∙ r .long;
+            fields = λ x g hg ne. word-off-field v m x stateField g _ (omega arith) hg ne ∙ r .fields x g hg ne;
+            states = λ x later.
+                word-other-row v m x stateField stateField _ (omega arith) (omega arith) (λ z. omega arith)
+                ∙ r .states x (omega arith);
+            counted = omega (arith, r .counted, count-left-here (isAbortedBy w n) m (started w + 1) (omega arith) into);
+            leaves = r .leaves ∙ fold-left-next (mark w n) m (started w + 1) v (omega arith) ∙ rw into;
+          }

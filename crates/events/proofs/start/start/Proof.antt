@@ -1,0 +1,57 @@
+-- `start` puts the fields of the new action one by one, in the order of `startTable`. Assumes nothing.
+use borrow.Author.Needs.{needs}
+use Rattle.rules.specs.Step.{startTable}
+use Rattle.events.proofs.start.start.Statement.{statement}
+use Rattle.events.proofs.start.start.Tie as tie
+
+last-start-requires : tie.Need-last-start-requires
+last-start-requires c κs = search needs
+
+add-n : tie.Need-add-n
+add-n c = search needs
+
+set-last-start-requires : tie.Need-set-last-start-requires
+set-last-start-requires c κs = search needs
+
+set-parent-requires : tie.Need-set-parent-requires
+set-parent-requires c κs = search needs
+
+set-state-requires : tie.Need-set-state-requires
+set-state-requires c κs = search needs
+
+set-end-time-requires : tie.Need-set-end-time-requires
+set-end-time-requires c κs = search needs
+
+clear-sets-requires : tie.Need-clear-sets-requires
+clear-sets-requires c κs = search needs
+
+same-length : tie.Need-same-length
+same-length c = search needs
+
+returns : tie.Need-returns
+unfolding startTable
+returns c =
+    let emptied = c .before .before in
+    let ended = emptied .before .before .before .before in
+    let lives = ended .before .before .before .before in
+    let placed = lives .before .before .before .before in
+    let counted = placed .before .before .before .before in
+    let last = counted .before .before .last-start .ensures in (
+      rw last,
+      rw (← last, ← counted .set-last-start .ensures, ← placed .set-parent .ensures, ← lives .set-state .ensures, ← ended .set-end-time .ensures)
+          (emptied .clear-sets .ensures),
+    )
+
+pub start-spec : {M : Type 1} → statement M
+start-spec =
+    tie.close
+    (tie.spec
+    last-start-requires
+    add-n
+    set-last-start-requires
+    set-parent-requires
+    set-state-requires
+    set-end-time-requires
+    clear-sets-requires
+    same-length
+    returns)

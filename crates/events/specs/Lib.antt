@@ -1,0 +1,2 @@
+-- What an event asks of its caller.
+pub mod Asked

@@ -1,0 +1,30 @@
+// The start of an action.
+ghost use mathlib.Core.Path.{_≡_};
+ghost use Prim.Native.Nat.{_+_};
+ghost use Rattle.rules.specs.Table.{started};
+ghost use Rattle.rules.specs.Step.{startTable};
+ghost use Rattle.rows.specs.Row.{Scannable};
+ghost use Rattle.events.specs.Asked.{HasFreeNumber};
+use rows::fields::last_start;
+use rows::fields::set_end_time;
+use rows::fields::set_last_start;
+use rows::fields::set_parent;
+use rows::fields::set_state;
+use rows::sets::clear_sets;
+use rules::table::LIVE;
+
+// The number of the new action. Every field of its row is set, whatever stood there.
+pub fn start(table: &mut [u64], p: u64) -> u64
+    requires { ⌜ Scannable (now table) ⌝ }
+    requires { ⌜ HasFreeNumber (now table) ⌝ }
+    ensures number { λ r. ⌜ r ≡ started (now (table .entry)) + 1 ⌝ }
+    ensures leaves { λ r. ⌜ now (table .exit) ≡ startTable (now (table .entry)) p ⌝ }
+{
+    let n = last_start(table) + 1;
+    set_last_start(table, n);
+    set_parent(table, n, p);
+    set_state(table, n, LIVE);
+    set_end_time(table, n, 0);
+    clear_sets(table, n);
+    n
+}

@@ -1,0 +1,99 @@
+-- How long the lines of a listing can be: 9 letters, two numbers of 20 digits and a place of 4. So the lines of 1,000 answers
+-- and the last line fit 65,536 bytes. Assumes nothing.
+use Prim.Native.Nat.{ℕ, zero, suc, _+_, _*_, _≤_}
+use native.Mathlib.Omega.{arith}
+use mathlib.Core.Bool.{Bool, cond}
+use mathlib.Core.List.{List, _∷_}
+use lib.Dec.{eqb, lit≤}
+use lib.ListN.{length, getD, length-append}
+use Rattle.rules.specs.Encoding.{mostEvents, answerLength, refusedKind, startedKind, readKind, writtenKind, committedKind, failedKind}
+use Rattle.rules.proofs.Laws.Tests.{cond-holds}
+use Rattle.listing.specs.Listing.{spaced, endLine, refusedLine}
+use Rattle.listing.specs.Buffer.{wordOf, numbersOf, textOf, lineOf, linesOf, listingLength}
+use Rattle.listing.proofs.Decimals.{decimal-bound, place-bound}
+use Rattle.listing.proofs.Pieces.{line-length, end-length}
+
+-- what holds of both outcomes holds of the one that a test picks
+either : {A : Type 0} (P : A → Type 0) (b : Bool) {x y : A} → P x → P y → P (cond b x y)
+either P b p q = cond-holds P b (λ _. p) (λ _. q)
+
+-- the letters of the longest word, `committed`
+abbrev mostLetters : ℕ
+mostLetters = 9
+
+abbrev Short : List ℕ → Type 0
+Short word = length word ≤ mostLetters
+
+word-bound : (kind : ℕ) → Short (wordOf kind)
+unfolding wordOf
+word-bound kind =
+    either Short (eqb kind refusedKind) (lit≤ tt)
+    (either Short (eqb kind startedKind) (lit≤ tt)
+    (either Short (eqb kind readKind) (lit≤ tt)
+    (either Short (eqb kind writtenKind) (lit≤ tt)
+    (either Short (eqb kind committedKind) (lit≤ tt)
+    (either Short (eqb kind failedKind) (lit≤ tt) (lit≤ tt))))))
+
+-- two numbers of 20 digits, each with a space before it
+abbrev numbersLength : ℕ
+numbersLength = 42
+
+numbers-bound : (kind first second : ℕ) → length (spaced (numbersOf kind first second)) ≤ numbersLength
+unfolding numbersOf spaced
+numbers-bound kind first second =
+    either (λ (numbers : List ℕ). length (spaced numbers) ≤ numbersLength) (eqb kind writtenKind)
+    (lit≤ tt)
+    (either (λ (numbers : List ℕ). length (spaced (first ∷ numbers)) ≤ numbersLength) (eqb kind failedKind)
+    (simp length-append (omega (arith, decimal-bound first, decimal-bound second)))
+    (simp length-append (omega (arith, decimal-bound first))))
+
+-- the longest text of an answer: its word and two numbers
+abbrev pub textLength : ℕ
+textLength = 51
+
+pub text-bound : (kind first second : ℕ) → length (textOf kind first second) ≤ textLength
+unfolding textOf
+text-bound kind first second = simp length-append (omega (arith, word-bound kind, numbers-bound kind first second))
+
+-- the longest line: a place of 4 digits, a word of 9 letters, two numbers of 20 digits, three spaces and a line feed
+abbrev pub lineLength : ℕ
+lineLength = 57
+
+pub line-bound : (place kind first second : ℕ) → place ≤ mostEvents → length (lineOf place kind first second) ≤ lineLength
+line-bound place kind first second h =
+    omega (
+      arith,
+      line-length kind first second place,
+      place-bound place h,
+      text-bound kind first second,
+    )
+
+pub lines-bound : (words : List ℕ) (place i n : ℕ) → place + n ≤ mostEvents + 1 → length (linesOf words place i n) ≤ lineLength * n
+unfolding linesOf
+lines-bound words place i zero h = omega arith
+lines-bound words place i (suc n) h =
+    simp length-append
+    (omega (
+      arith,
+      line-bound place (getD words (answerLength * i) 0) (getD words (answerLength * i + 1) 0) (getD words (answerLength * i + 2) 0) (omega arith),
+      lines-bound words (suc place) (suc i) n (omega arith),
+    ))
+
+-- the longest last line: a word of 3 letters, two numbers of 20 digits, two spaces and a line feed
+abbrev pub endLength : ℕ
+endLength = 46
+
+pub end-bound : (started counter : ℕ) → length (endLine started counter) ≤ endLength
+end-bound started counter =
+    omega (arith, end-length started counter, decimal-bound started, decimal-bound counter)
+
+-- the lines of a day and the last line fit the buffer
+pub listing-fits :
+    (words : List ℕ) (n started counter : ℕ) → n ≤ mostEvents
+    → length (linesOf words 1 0 n) + length (endLine started counter) ≤ listingLength
+listing-fits words n started counter h =
+    omega (arith, lines-bound words 1 0 n (omega arith), end-bound started counter)
+
+pub refused-fits : (fault : ℕ) → length (refusedLine fault) ≤ listingLength
+unfolding spaced
+refused-fits fault = simp length-append (omega (arith, decimal-bound fault))

@@ -1,0 +1,7 @@
+-- Facts that the proofs of a listing use.
+mod CopiedText
+pub mod Texts
+mod Decimals
+mod Pieces
+pub mod Bounds
+pub mod AnswerLines

@@ -1,0 +1,59 @@
+-- A listing's buffer, and its lines from answers as they lie in words. Assumes nothing.
+use Prim.Native.Nat.{ℕ, zero, suc, _+_, _*_, _≤_}
+use mathlib.Core.Path.{_≡_}
+use mathlib.Core.Bool.{cond}
+use mathlib.Core.List.{List, [], _∷_, _++_}
+use lib.Dec.{eqb}
+use lib.ListN.{length, take, drop, getD}
+use Rattle.rules.specs.declared.Answer.the-variants.{Started, Read, Written, Committed, Failed, Aborted, Refused}
+use Rattle.rules.specs.Table.{started, counter}
+use Rattle.rules.specs.Answer.{said}
+use Rattle.rules.specs.Encoding.{mostEvents, answerLength, refusedKind, startedKind, readKind, writtenKind, committedKind, failedKind}
+use Rattle.listing.specs.Listing.{space, lineFeed, decimal, spaced, endLine}
+
+-- RULES 11.4: the bytes of the buffer
+abbrev pub listingLength : ℕ
+listingLength = 65536
+
+abbrev pub IsListingBuffer : List ℕ → Type 0
+IsListingBuffer buffer = length buffer ≡ listingLength
+
+-- a buffer of words has this many answers, and they are no more than a day has events
+abbrev pub HasAnswers : List ℕ → ℕ → Type 0
+HasAnswers words count = (count ≤ mostEvents) × (answerLength * count ≤ length words)
+
+-- the buffer with a text put at a place
+unfoldable pub putAt : List ℕ → ℕ → List ℕ → List ℕ
+putAt buffer at text = take at buffer ++ text ++ drop (at + length text) buffer
+
+-- RULES 5: the word of an answer, by its kind
+unfoldable pub wordOf : ℕ → List ℕ
+wordOf kind =
+    cond (eqb kind refusedKind) (said (Refused 0) .word)
+    (cond (eqb kind startedKind) (said (Started 0) .word)
+    (cond (eqb kind readKind) (said (Read 0) .word)
+    (cond (eqb kind writtenKind) (said Written .word)
+    (cond (eqb kind committedKind) (said (Committed 0) .word)
+    (cond (eqb kind failedKind) (said (Failed 0 0) .word)
+    (said (Aborted 0) .word))))))
+
+-- written has no number, failed has two, every other answer one
+unfoldable pub numbersOf : ℕ → ℕ → ℕ → List ℕ
+numbersOf kind first second = cond (eqb kind writtenKind) [] (first ∷ cond (eqb kind failedKind) (second ∷ []) [])
+
+unfoldable pub textOf : ℕ → ℕ → ℕ → List ℕ
+textOf kind first second = wordOf kind ++ spaced (numbersOf kind first second)
+
+unfoldable pub lineOf : ℕ → ℕ → ℕ → ℕ → List ℕ
+lineOf place kind first second = decimal place ++ (space ∷ textOf kind first second) ++ (lineFeed ∷ [])
+
+-- n lines from a place on, of the answers from the ith on
+unfoldable pub linesOf : List ℕ → ℕ → ℕ → ℕ → List ℕ
+linesOf words place i zero = []
+linesOf words place i (suc n) =
+    lineOf place (getD words (answerLength * i) 0) (getD words (answerLength * i + 1) 0) (getD words (answerLength * i + 2) 0)
+    ++ linesOf words (suc place) (suc i) n
+
+-- the listing of a day that is run: a line for each of its answers, and the line of its table's two totals
+unfoldable pub listingOf : List ℕ → ℕ → List ℕ → List ℕ
+listingOf words count table = linesOf words 1 0 count ++ endLine (started table) (counter table)

@@ -1,0 +1,61 @@
+-- RULES 10: the lines of a listing, as ASCII. Assumes nothing.
+use Prim.Native.Nat.{ℕ, zero, suc, _+_, _/_, _%_}
+use mathlib.Core.Bool.{cond}
+use mathlib.Core.List.{List, [], _∷_, _++_}
+use lib.Dec.{ltb}
+use Rattle.rules.specs.declared.Answer.{Answer}
+use Rattle.rules.specs.declared.Answer.the-variants.{Refused}
+use Rattle.rules.specs.Answer.{Said, said}
+
+abbrev pub space : ℕ
+space = 32
+
+abbrev pub lineFeed : ℕ
+lineFeed = 10
+
+abbrev pub zeroDigit : ℕ
+zeroDigit = 48
+
+-- the letters of `end`
+abbrev pub endWord : List ℕ
+endWord = 101 ∷ 110 ∷ 100 ∷ []
+
+-- a number in decimal: at most as many digits as the first number says
+unfoldable pub decimalWithin : ℕ → ℕ → List ℕ
+decimalWithin zero n = []
+decimalWithin (suc places) n =
+    let higher = decimalWithin places (n / 10) in
+    cond (ltb n 10) ((zeroDigit + n) ∷ []) (higher ++ ((zeroDigit + n % 10) ∷ []))
+
+-- the digits of the largest 64-bit number
+abbrev pub mostDigits : ℕ
+mostDigits = 20
+
+abbrev pub decimal : ℕ → List ℕ
+decimal n = decimalWithin mostDigits n
+
+-- each number with a space before it
+unfoldable pub spaced : List ℕ → List ℕ
+spaced [] = []
+spaced (n ∷ ns) = (space ∷ decimal n) ++ spaced ns
+
+-- an answer's word and numbers
+abbrev pub saidText : Said → List ℕ
+saidText s = s .word ++ spaced (s .numbers)
+
+-- RULES 10.2: the line of an event
+abbrev pub answerLine : ℕ → Answer → List ℕ
+answerLine place a = decimal place ++ (space ∷ saidText (said a)) ++ (lineFeed ∷ [])
+
+-- the lines of the answers from a place on
+unfoldable pub answerLines : ℕ → List Answer → List ℕ
+answerLines place [] = []
+answerLines place (a ∷ answers) = answerLine place a ++ answerLines (suc place) answers
+
+-- RULES 10.3: the last line
+abbrev pub endLine : ℕ → ℕ → List ℕ
+endLine started counter = endWord ++ spaced (started ∷ counter ∷ []) ++ (lineFeed ∷ [])
+
+-- RULES 10.4: the line of a refused day
+abbrev pub refusedLine : ℕ → List ℕ
+refusedLine fault = saidText (said (Refused fault)) ++ (lineFeed ∷ [])

@@ -1,0 +1,110 @@
+// The lines of a listing, from answers as the list call leaves them in words.
+ghost use mathlib.Core.Path.{_≡_};
+ghost use Prim.Native.Nat.{_+_, _≤_};
+ghost use lib.ListN.{length};
+ghost use Rattle.listing.specs.Listing.{endLine, refusedLine};
+ghost use Rattle.listing.specs.Buffer.{IsListingBuffer, HasAnswers, putAt, wordOf, textOf, lineOf, linesOf, listingOf};
+use crate::text::put_byte;
+use crate::text::put_number;
+use crate::text::put_spaced;
+use crate::text::put_text;
+use rules::kind;
+use rules::kind::ANSWER_LENGTH;
+
+fn put_word(out: &mut [u8], at: usize, kind: u64) -> usize
+    requires { ⌜ at + length (wordOf kind) ≤ length (now out) ⌝ }
+    ensures next { λ r. ⌜ r ≡ at + length (wordOf kind) ⌝ }
+    ensures leaves { λ r. ⌜ now (out .exit) ≡ putAt (now (out .entry)) at (wordOf kind) ⌝ }
+{
+    match kind {
+        kind::REFUSED => put_text(out, at, b"refused"),
+        kind::STARTED => put_text(out, at, b"started"),
+        kind::READ => put_text(out, at, b"read"),
+        kind::WRITTEN => put_text(out, at, b"written"),
+        kind::COMMITTED => put_text(out, at, b"committed"),
+        kind::FAILED => put_text(out, at, b"failed"),
+        _ => put_text(out, at, b"aborted"),
+    }
+}
+
+fn put_answer(out: &mut [u8], at: usize, kind: u64, first: u64, second: u64) -> usize
+    requires { ⌜ at + length (textOf kind first second) ≤ length (now out) ⌝ }
+    ensures next { λ r. ⌜ r ≡ at + length (textOf kind first second) ⌝ }
+    ensures leaves { λ r. ⌜ now (out .exit) ≡ putAt (now (out .entry)) at (textOf kind first second) ⌝ }
+{
+    let after = put_word(out, at, kind);
+    if kind == kind::WRITTEN {
+        return after;
+    }
+    let one = put_spaced(out, after, first);
+    if kind == kind::FAILED {
+        return put_spaced(out, one, second);
+    }
+    one
+}
+
+fn put_line(out: &mut [u8], at: usize, place: u64, kind: u64, first: u64, second: u64) -> usize
+    requires { ⌜ at + length (lineOf place kind first second) ≤ length (now out) ⌝ }
+    ensures next { λ r. ⌜ r ≡ at + length (lineOf place kind first second) ⌝ }
+    ensures leaves { λ r. ⌜ now (out .exit) ≡ putAt (now (out .entry)) at (lineOf place kind first second) ⌝ }
+{
+    let numbered = put_number(out, at, place);
+    let spaced = put_byte(out, numbered, b' ');
+    let answered = put_answer(out, spaced, kind, first, second);
+    put_byte(out, answered, b'\n')
+}
+
+// The lines of the first answers, from place 1 on.
+fn put_lines(out: &mut [u8], answers: &[u64], count: usize) -> usize
+    requires { ⌜ HasAnswers (now answers) count ⌝ }
+    requires { ⌜ IsListingBuffer (now out) ⌝ }
+    ensures next { λ r. ⌜ r ≡ length (linesOf (now (answers .entry)) 1 0 count) ⌝ }
+    ensures leaves { λ r. ⌜ now (out .exit) ≡ putAt (now (out .entry)) 0 (linesOf (now (answers .entry)) 1 0 count) ⌝ }
+{
+    let mut at = 0;
+    for i in 0..count {
+        at = put_line(
+            out,
+            at,
+            (i + 1) as u64,
+            answers[ANSWER_LENGTH * i],
+            answers[ANSWER_LENGTH * i + 1],
+            answers[ANSWER_LENGTH * i + 2],
+        );
+    }
+    at
+}
+
+fn put_end(out: &mut [u8], at: usize, started: u64, counter: u64) -> usize
+    requires { ⌜ at + length (endLine started counter) ≤ length (now out) ⌝ }
+    ensures next { λ r. ⌜ r ≡ at + length (endLine started counter) ⌝ }
+    ensures leaves { λ r. ⌜ now (out .exit) ≡ putAt (now (out .entry)) at (endLine started counter) ⌝ }
+{
+    let word = put_text(out, at, b"end");
+    let one = put_spaced(out, word, started);
+    let two = put_spaced(out, one, counter);
+    put_byte(out, two, b'\n')
+}
+
+// The listing of a day that is run: its lines, and the line of its table's two numbers.
+pub fn put_listing(out: &mut [u8], answers: &[u64], count: usize, table: &[u64]) -> usize
+    requires { ⌜ HasAnswers (now answers) count ⌝ }
+    requires { ⌜ IsListingBuffer (now out) ⌝ }
+    ensures next { λ r. ⌜ r ≡ length (listingOf (now (answers .entry)) count (now (table .entry))) ⌝ }
+    ensures leaves { λ r. ⌜ now (out .exit)
+        ≡ putAt (now (out .entry)) 0 (listingOf (now (answers .entry)) count (now (table .entry))) ⌝ }
+{
+    let next = put_lines(out, answers, count);
+    let started = table::started(table);
+    let counter = table::counter(table);
+    put_end(out, next, started, counter)
+}
+
+pub fn put_refused(out: &mut [u8], fault: u64) -> usize
+    requires { ⌜ IsListingBuffer (now out) ⌝ }
+    ensures next { λ r. ⌜ r ≡ length (refusedLine fault) ⌝ }
+    ensures leaves { λ r. ⌜ now (out .exit) ≡ putAt (now (out .entry)) 0 (refusedLine fault) ⌝ }
+{
+    let said = put_answer(out, 0, kind::REFUSED, fault, 0);
+    put_byte(out, said, b'\n')
+}

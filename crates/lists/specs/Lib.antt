@@ -1,0 +1,2 @@
+-- What a list call gives back.
+pub mod Listed

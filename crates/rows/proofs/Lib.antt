@@ -1,0 +1,2 @@
+-- Facts that the proofs on rows use.
+mod Joining

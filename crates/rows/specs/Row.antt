@@ -1,0 +1,21 @@
+-- What the functions on rows ask of their callers. Assumes nothing.
+use Prim.Native.Nat.{ℕ, _≤_}
+use mathlib.Core.Path.{_≡_}
+use mathlib.Core.Logic.{_≢_}
+use mathlib.Core.List.{List}
+use lib.ListN.{length}
+use Rattle.rules.specs.Table.{tableLength, mostActions, started}
+
+-- w has a table's length, and n is the number of one of its rows
+pub record HasRow (w : List ℕ) (n : ℕ) : Type 0 where
+  pub long : length w ≡ tableLength
+  pub known : n ≤ mostActions
+
+-- w has a table's length, and its last start is the number of a row: a scan of its actions stays inside
+pub record Scannable (w : List ℕ) : Type 0 where
+  pub long : length w ≡ tableLength
+  pub few : started w ≤ mostActions
+
+-- two rows are not the same
+abbrev pub AreTwo : ℕ → ℕ → Type 0
+AreTwo n p = n ≢ p

@@ -1,0 +1,142 @@
+// The fields of the head and of an action, by name.
+ghost use mathlib.Core.Path.{_≡_};
+ghost use Rattle.rules.specs.Card.{IsAccount};
+ghost use Rattle.rules.specs.Table.{started, withStarted, counter, withCounter, parentOf, withParent, stateOf, withState, endTime, withEndTime, readEntry, withRead, hasWritten, writeEntry, withWrite, isLive, isCommitted};
+ghost use Rattle.rows.specs.Row.{HasRow};
+use crate::words::get;
+use crate::words::put;
+use rules::table::COMMITTED;
+use rules::table::COUNTER_FIELD;
+use rules::table::END_FIELD;
+use rules::table::LIVE;
+use rules::table::NO_ENTRY;
+use rules::table::PARENT_FIELD;
+use rules::table::READ_FIELDS;
+use rules::table::STARTED_FIELD;
+use rules::table::STATE_FIELD;
+use rules::table::WRITE_FIELDS;
+
+pub fn last_start(table: &[u64]) -> u64
+    requires { ⌜ HasRow (now table) 0 ⌝ }
+    ensures { λ r. ⌜ r ≡ started (now (table .entry)) ⌝ }
+{
+    get(table, 0, STARTED_FIELD)
+}
+
+pub fn set_last_start(table: &mut [u64], v: u64)
+    requires { ⌜ HasRow (now table) 0 ⌝ }
+    ensures { λ r. ⌜ now (table .exit) ≡ withStarted (now (table .entry)) v ⌝ }
+{
+    put(table, 0, STARTED_FIELD, v);
+}
+
+pub fn counter(table: &[u64]) -> u64
+    requires { ⌜ HasRow (now table) 0 ⌝ }
+    ensures { λ r. ⌜ r ≡ counter (now (table .entry)) ⌝ }
+{
+    get(table, 0, COUNTER_FIELD)
+}
+
+pub fn set_counter(table: &mut [u64], v: u64)
+    requires { ⌜ HasRow (now table) 0 ⌝ }
+    ensures { λ r. ⌜ now (table .exit) ≡ withCounter (now (table .entry)) v ⌝ }
+{
+    put(table, 0, COUNTER_FIELD, v);
+}
+
+pub fn parent(table: &[u64], n: u64) -> u64
+    requires { ⌜ HasRow (now table) n ⌝ }
+    ensures { λ r. ⌜ r ≡ parentOf (now (table .entry)) n ⌝ }
+{
+    get(table, n, PARENT_FIELD)
+}
+
+pub fn set_parent(table: &mut [u64], n: u64, v: u64)
+    requires { ⌜ HasRow (now table) n ⌝ }
+    ensures { λ r. ⌜ now (table .exit) ≡ withParent (now (table .entry)) n v ⌝ }
+{
+    put(table, n, PARENT_FIELD, v);
+}
+
+pub fn state(table: &[u64], n: u64) -> u64
+    requires { ⌜ HasRow (now table) n ⌝ }
+    ensures { λ r. ⌜ r ≡ stateOf (now (table .entry)) n ⌝ }
+{
+    get(table, n, STATE_FIELD)
+}
+
+pub fn set_state(table: &mut [u64], n: u64, v: u64)
+    requires { ⌜ HasRow (now table) n ⌝ }
+    ensures { λ r. ⌜ now (table .exit) ≡ withState (now (table .entry)) n v ⌝ }
+{
+    put(table, n, STATE_FIELD, v);
+}
+
+pub fn is_live(table: &[u64], n: u64) -> bool
+    requires { ⌜ HasRow (now table) n ⌝ }
+    ensures { λ r. ⌜ r ≡ isLive (now (table .entry)) n ⌝ }
+{
+    state(table, n) == LIVE
+}
+
+pub fn is_committed(table: &[u64], n: u64) -> bool
+    requires { ⌜ HasRow (now table) n ⌝ }
+    ensures { λ r. ⌜ r ≡ isCommitted (now (table .entry)) n ⌝ }
+{
+    state(table, n) == COMMITTED
+}
+
+pub fn end_time(table: &[u64], n: u64) -> u64
+    requires { ⌜ HasRow (now table) n ⌝ }
+    ensures { λ r. ⌜ r ≡ endTime (now (table .entry)) n ⌝ }
+{
+    get(table, n, END_FIELD)
+}
+
+pub fn set_end_time(table: &mut [u64], n: u64, v: u64)
+    requires { ⌜ HasRow (now table) n ⌝ }
+    ensures { λ r. ⌜ now (table .exit) ≡ withEndTime (now (table .entry)) n v ⌝ }
+{
+    put(table, n, END_FIELD, v);
+}
+
+// 0 where the account isn't in the read set, one more than its time where it is
+pub fn read_entry(table: &[u64], n: u64, k: u64) -> u64
+    requires { ⌜ HasRow (now table) n ⌝ }
+    requires { ⌜ IsAccount k ⌝ }
+    ensures { λ r. ⌜ r ≡ readEntry (now (table .entry)) n k ⌝ }
+{
+    get(table, n, READ_FIELDS + k)
+}
+
+pub fn set_read_entry(table: &mut [u64], n: u64, k: u64, v: u64)
+    requires { ⌜ HasRow (now table) n ⌝ }
+    requires { ⌜ IsAccount k ⌝ }
+    ensures { λ r. ⌜ now (table .exit) ≡ withRead (now (table .entry)) n k v ⌝ }
+{
+    put(table, n, READ_FIELDS + k, v);
+}
+
+pub fn write_entry(table: &[u64], n: u64, k: u64) -> u64
+    requires { ⌜ HasRow (now table) n ⌝ }
+    requires { ⌜ IsAccount k ⌝ }
+    ensures { λ r. ⌜ r ≡ writeEntry (now (table .entry)) n k ⌝ }
+{
+    get(table, n, WRITE_FIELDS + k)
+}
+
+pub fn set_write_entry(table: &mut [u64], n: u64, k: u64, v: u64)
+    requires { ⌜ HasRow (now table) n ⌝ }
+    requires { ⌜ IsAccount k ⌝ }
+    ensures { λ r. ⌜ now (table .exit) ≡ withWrite (now (table .entry)) n k v ⌝ }
+{
+    put(table, n, WRITE_FIELDS + k, v);
+}
+
+pub fn has_written(table: &[u64], n: u64, k: u64) -> bool
+    requires { ⌜ HasRow (now table) n ⌝ }
+    requires { ⌜ IsAccount k ⌝ }
+    ensures { λ r. ⌜ r ≡ hasWritten (now (table .entry)) n k ⌝ }
+{
+    write_entry(table, n, k) != NO_ENTRY
+}

@@ -1,0 +1,54 @@
+-- The abstraction of a ledger, which is all that the proof of demand 3 sees of table and stores, and what makes a read stale
+-- there. Assumes nothing.
+use Prim.Native.Nat.{ℕ, _<_}
+use mathlib.Core.Path.{_≡_}
+use mathlib.Core.Bool.{Bool, true, cond, _&&_}
+use mathlib.Core.Option.{none, some}
+use mathlib.Core.List.{List}
+use lib.Dec.{leb, ltb, eqb}
+use Rattle.rules.specs.Card.{accountCount, basePlace, shadowPlace, cardAt}
+use Rattle.rules.specs.Table.{started, parentOf, endTime, hasRead, readTime, hasWritten, isLive, isRecordOf}
+use Rattle.rules.specs.Sound.{IsStarted}
+use Rattle.rules.specs.Nearest.{nearest}
+use Rattle.rules.specs.Ledger.{Ledger}
+use Rattle.rules.specs.Serial.Effect.{Effect}
+use Rattle.rules.proofs.Serial.Values.{cards}
+use Rattle.rules.proofs.Serial.AbstractState as serial
+
+-- X is the number of a started action that is live
+unfoldable pub isAlive : List ℕ → ℕ → Bool
+isAlive w X = leb 1 X && leb X (started w) && isLive w X
+
+-- the card of an action, or of the store, for an account
+unfoldable pub cardOf : Ledger → ℕ → ℕ → List ℕ
+cardOf s X k = cond (eqb X 0) (cardAt (s .base) (basePlace k)) (cardAt (s .shadow) (shadowPlace X k))
+
+-- an action's effect is the card of its own, where it has one; on numbers that are no account nobody has an effect
+unfoldable pub effectOf : Ledger → ℕ → ℕ → Effect
+effectOf s X k = cond (ltb k accountCount && hasWritten (s .table) X k) (some (cardAt (s .shadow) (shadowPlace X k))) none
+
+-- an action's view of an account is its nearest version's card
+unfoldable pub viewOf : Ledger → ℕ → ℕ → List ℕ
+viewOf s X k = cond (ltb k accountCount) (cardOf s (nearest (s .table) X k) k) (cardOf s 0 k)
+
+unfoldable pub hasReadAccount : List ℕ → ℕ → ℕ → Bool
+hasReadAccount w X k = ltb k accountCount && hasRead w X k
+
+abbrev pub abstraction : Ledger → serial.AbstractState cards
+abstraction s =
+    record {
+      live = isAlive (s .table);
+      parent = parentOf (s .table);
+      hasRead = hasReadAccount (s .table);
+      eff = effectOf s;
+      base = cardOf s 0;
+      view = viewOf s;
+    }
+
+-- since X read k, a child of Q has committed with k in its write set
+pub record Stale (s : Ledger) (X Q k : ℕ) : Type 0 where
+  pub holder : ℕ
+  pub begun : IsStarted (s .table) holder
+  pub isRecord : isRecordOf (s .table) Q holder ≡ true
+  pub written : hasWritten (s .table) holder k ≡ true
+  pub later : readTime (s .table) X k < endTime (s .table) holder

@@ -1,0 +1,34 @@
+// RULES 1.7: the table's words. Row 0 is the head, row n is action n.
+pub const MOST_ACTIONS: u64 = 64;
+
+pub const WIDTH: u64 = 67;
+
+pub const TABLE_LENGTH: usize = 4355;
+
+// Words of the head.
+pub const STARTED_FIELD: u64 = 0;
+
+pub const COUNTER_FIELD: u64 = 1;
+
+// Words of an action; a read set and a write set have one for each account, from here on.
+pub const PARENT_FIELD: u64 = 0;
+
+pub const STATE_FIELD: u64 = 1;
+
+pub const END_FIELD: u64 = 2;
+
+pub const READ_FIELDS: u64 = 3;
+
+pub const WRITE_FIELDS: u64 = 35;
+
+// The entry of an account that is in neither set, and that of one in a write set.
+pub const NO_ENTRY: u64 = 0;
+
+pub const ENTERED: u64 = 1;
+
+// States.
+pub const LIVE: u64 = 1;
+
+pub const COMMITTED: u64 = 2;
+
+pub const ABORTED: u64 = 3;

@@ -1,0 +1,115 @@
+-- `is_sound_action` meets its contract: each exit is decided by the clauses that led there, in the definition's order; the
+-- second clause bounds the parent that the third looks at. Assumes nothing.
+use native.Mathlib.Omega.{arith}
+use borrow.Author.Needs.{needs}
+use borrow.Author.Tests.{ltb-true}
+use Rattle.rules.specs.Sound.{isSoundAction}
+use Rattle.rules.proofs.Laws.Negated.{failed, held}
+use Rattle.soundness.proofs.action.is_sound_action.Statement.{statement}
+use Rattle.soundness.proofs.action.is_sound_action.Tie as tie
+
+has-state-requires : tie.Need-has-state-requires
+has-state-requires c κs = search needs
+
+returns : tie.Need-returns
+unfolding isSoundAction
+returns c = rw (failed (c .before .has-state .ensures) (c .if1 .taken))
+
+has-parent-below-requires : tie.Need-has-parent-below-requires
+has-parent-below-requires c κs = search needs
+
+returns-2 : tie.Need-returns-2
+unfolding isSoundAction
+returns-2 c =
+    let one = c .before .before in
+    rw (
+      held (one .before .has-state .ensures) (one .if1 .left),
+      failed (c .before .has-parent-below .ensures) (c .if2 .taken),
+    )
+
+has-parent-alive-requires : tie.Need-has-parent-alive-requires
+has-parent-alive-requires c κs =
+    let below = held (c .before .has-parent-below .ensures) (c .if2 .left) in
+    (search needs, omega (arith, ltb-true))
+
+returns-3 : tie.Need-returns-3
+unfolding isSoundAction
+returns-3 c =
+    let two = c .before .before in
+    let one = two .before .before in
+    rw (
+      held (one .before .has-state .ensures) (one .if1 .left),
+      held (two .before .has-parent-below .ensures) (two .if2 .left),
+      failed (c .before .has-parent-alive .ensures) (c .if3 .taken),
+    )
+
+has-read-in-time-requires : tie.Need-has-read-in-time-requires
+has-read-in-time-requires c κs = search needs
+
+returns-4 : tie.Need-returns-4
+unfolding isSoundAction
+returns-4 c =
+    let three = c .before .before in
+    let two = three .before .before in
+    let one = two .before .before in
+    rw (
+      held (one .before .has-state .ensures) (one .if1 .left),
+      held (two .before .has-parent-below .ensures) (two .if2 .left),
+      held (three .before .has-parent-alive .ensures) (three .if3 .left),
+      failed (c .before .has-read-in-time .ensures) (c .if4 .taken),
+    )
+
+has-end-in-time-requires : tie.Need-has-end-in-time-requires
+has-end-in-time-requires c κs = search needs
+
+returns-5 : tie.Need-returns-5
+unfolding isSoundAction
+returns-5 c =
+    let four = c .before .before in
+    let three = four .before .before in
+    let two = three .before .before in
+    let one = two .before .before in
+    rw (
+      held (one .before .has-state .ensures) (one .if1 .left),
+      held (two .before .has-parent-below .ensures) (two .if2 .left),
+      held (three .before .has-parent-alive .ensures) (three .if3 .left),
+      held (four .before .has-read-in-time .ensures) (four .if4 .left),
+      failed (c .before .has-end-in-time .ensures) (c .if5 .taken),
+    )
+
+has-end-alone-requires : tie.Need-has-end-alone-requires
+has-end-alone-requires c κs = search needs
+
+returns-6 : tie.Need-returns-6
+unfolding isSoundAction
+returns-6 c =
+    let five = c .before in
+    let four = five .before .before in
+    let three = four .before .before in
+    let two = three .before .before in
+    let one = two .before .before in
+    rw (
+      held (one .before .has-state .ensures) (one .if1 .left),
+      held (two .before .has-parent-below .ensures) (two .if2 .left),
+      held (three .before .has-parent-alive .ensures) (three .if3 .left),
+      held (four .before .has-read-in-time .ensures) (four .if4 .left),
+      held (five .before .has-end-in-time .ensures) (five .if5 .left),
+      c .has-end-alone .ensures,
+    )
+
+pub is-sound-action-spec : {M : Type 1} → statement M
+is-sound-action-spec =
+    tie.close
+    (tie.spec
+    has-state-requires
+    returns
+    has-parent-below-requires
+    returns-2
+    has-parent-alive-requires
+    returns-3
+    has-read-in-time-requires
+    returns-4
+    has-end-in-time-requires
+    returns-5
+    has-end-alone-requires
+    returns-6)

@@ -1,0 +1,67 @@
+-- `is_sound` meets its contract: each exit is decided by the clauses that led there, in the definition's order.
+-- Assumes nothing.
+use borrow.Author.Needs.{needs}
+use borrow.Author.Tests.{eq-eqb, ne-eqb, le-leb, lt-leb}
+use Rattle.rules.specs.Table.{mostActions}
+use Rattle.rules.specs.Sound.{sound}
+use Rattle.soundness.proofs.sound.is_sound.Statement.{statement}
+use Rattle.soundness.proofs.sound.is_sound.Tie as tie
+
+returns : tie.Need-returns
+unfolding sound
+returns c = rw (ne-eqb _ _ (c .if1 .taken))
+
+last-start-requires : tie.Need-last-start-requires
+last-start-requires c κs = search needs
+
+returns-2 : tie.Need-returns-2
+unfolding sound
+returns-2 c =
+    rw (eq-eqb _ _ (c .before .before .if1 .left), ← c .before .last-start .ensures, lt-leb _ mostActions (c .if2 .taken))
+
+count-committed-requires : tie.Need-count-committed-requires
+count-committed-requires c κs = search needs
+
+counter-requires : tie.Need-counter-requires
+counter-requires c κs = search needs
+
+returns-3 : tie.Need-returns-3
+unfolding sound
+returns-3 c =
+    rw (
+      eq-eqb _ _ (c .before .before .before .before .before .if1 .left),
+      ← c .before .before .before .before .last-start .ensures,
+      le-leb _ mostActions (c .before .before .before .if2 .left),
+      ← c .before .before .count-committed .ensures,
+      ← c .before .counter .ensures,
+      lt-leb _ _ (c .if3 .taken),
+    )
+
+all-sound-requires : tie.Need-all-sound-requires
+all-sound-requires c κs = search needs
+
+returns-4 : tie.Need-returns-4
+unfolding sound
+returns-4 c =
+    rw (
+      eq-eqb _ _ (c .before .before .before .before .before .before .if1 .left),
+      ← c .before .before .before .before .before .last-start .ensures,
+      le-leb _ mostActions (c .before .before .before .before .if2 .left),
+      ← c .before .before .before .count-committed .ensures,
+      ← c .before .before .counter .ensures,
+      le-leb _ _ (c .before .if3 .left),
+      c .all-sound .ensures,
+    )
+
+pub is-sound-spec : {M : Type 1} → statement M
+is-sound-spec =
+    tie.close
+    (tie.spec
+    returns
+    last-start-requires
+    returns-2
+    count-committed-requires
+    counter-requires
+    returns-3
+    all-sound-requires
+    returns-4)

@@ -1,0 +1,2 @@
+-- What the functions on stores ask of their callers.
+pub mod Fit

@@ -1,0 +1,2 @@
+-- Facts that the proofs of the search use.
+mod ClashSearch

@@ -1,0 +1,2 @@
+-- Where the search begins.
+pub mod FirstRead
