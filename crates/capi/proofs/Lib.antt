@@ -1,2 +1,3 @@
--- What a copy to the caller's card leaves there.
+-- What a C caller is given of an answer, and of a look.
+mod AnswerWords
 mod CopiedCard

@@ -1,4 +1,3 @@
 // The open calls on a ledger that the caller lends: one event, and a look.
-mod act;
 pub mod event;
 pub mod look;

@@ -1,3 +1,2 @@
--- A list event by event, and the words of answers.
+-- A list event by event.
 pub mod ListRun
-pub mod AnswerWords

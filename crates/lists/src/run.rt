@@ -9,7 +9,7 @@ ghost use Rattle.rules.specs.Step.{outcomeOf, step};
 ghost use Rattle.lists.specs.Listed.{AnswerFits, EventFits, listedOf, runList};
 use crate::answer::words;
 use causes::cause::store_cause;
-use engine::event::sound_event;
+use dispatch::event::sound_event;
 use rules::Answer;
 use rules::cause;
 use rules::event::ACCOUNT_AT;

@@ -2,7 +2,7 @@
 use mathlib.Core.Path.{_∙_}
 use borrow.Author.Needs.{needs}
 use Rattle.rules.proofs.Laws.AnswerWords.{three-words}
-use Rattle.lists.proofs.AnswerWords.{words-given}
+use Rattle.capi.proofs.AnswerWords.{words-given}
 use Rattle.capi.proofs.mundzavch_event.Statement.{statement}
 use Rattle.capi.proofs.mundzavch_event.Tie as tie
 

@@ -11,8 +11,8 @@ use Rattle.rules.proofs.Laws.Tests.{or-inl, or-inr}
 use Rattle.rules.proofs.Laws.Causes.{Allowed, allowed}
 use Rattle.rules.proofs.Sound.Soundness.{facts}
 use Rattle.rules.specs.Event.{eventOf, startCode, readCode, writeCode, commitCode}
-use Rattle.engine.proofs.act.act.Statement.{statement}
-use Rattle.engine.proofs.act.act.Tie as tie
+use Rattle.dispatch.proofs.act.act.Statement.{statement}
+use Rattle.dispatch.proofs.act.act.Tie as tie
 
 -- what holds at entry
 event-allowed :

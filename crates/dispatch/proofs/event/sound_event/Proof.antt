@@ -8,8 +8,8 @@ use Rattle.rules.specs.Cause.{causeOf}
 use Rattle.rules.specs.Step.{step}
 use Rattle.rules.specs.Event.{eventOf}
 use Rattle.causes.proofs.Grouped.{event-asked}
-use Rattle.engine.proofs.event.sound_event.Statement.{statement}
-use Rattle.engine.proofs.event.sound_event.Tie as tie
+use Rattle.dispatch.proofs.event.sound_event.Statement.{statement}
+use Rattle.dispatch.proofs.event.sound_event.Tie as tie
 
 event-cause-requires : tie.Need-event-cause-requires
 event-cause-requires c κs = search needs
