@@ -15,7 +15,7 @@ use Rattle.rules.specs.Sound.{sound, Sound}
 use Rattle.rules.specs.Event.{Event, startCode, readCode, writeCode, abortCode}
 use Rattle.rules.specs.Cause.{Cause, firstCause, isStoreLengthWrong, storeCauses, eventCauses, causesOf, causeOf}
 use Rattle.rules.proofs.Laws.Tests.{or-inr, test}
-use Rattle.rules.proofs.Laws.Causes.{not-given, stores-fit}
+use Rattle.rules.proofs.Laws.Allowed.{not-given, stores-fit}
 use Rattle.rules.proofs.Sound.Soundness.{facts, tested}
 use Rattle.causes.specs.Groups.{startCauses, kindCauses}
 

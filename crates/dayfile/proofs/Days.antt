@@ -19,7 +19,7 @@ use Rattle.rules.specs.Event.{Event}
 use Rattle.rules.specs.Ledger.{Ledger, ledgerOf}
 use Rattle.rules.specs.Step.{step}
 use Rattle.rules.specs.Run.{run}
-use Rattle.rules.proofs.Laws.Causes.{not-given, stores-fit}
+use Rattle.rules.proofs.Laws.Allowed.{not-given, stores-fit}
 use Rattle.rules.proofs.Sound.Kept.{new-sound}
 use Rattle.table.specs.Open.{openTable}
 use Rattle.rules.specs.Encoding.{eventLength, mostEvents, answerLength, eventsFrom, eventsIn}

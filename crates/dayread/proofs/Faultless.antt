@@ -11,7 +11,7 @@ use Rattle.rules.specs.Range.{upFrom, all}
 use Rattle.rules.specs.Card.{accountCount}
 use Rattle.rules.proofs.Laws.Tests.{and-left, not-fails, nonzero}
 use Rattle.rules.proofs.Laws.Ranges.{all-at}
-use Rattle.rules.proofs.Laws.Causes.{not-given}
+use Rattle.rules.proofs.Laws.Allowed.{not-given}
 use Rattle.rules.specs.Encoding.{mostEvents}
 use Rattle.dayread.specs.File.{mostCards, cardCount, accountAt, eventCount, eventsPlace, fileLength, isRising, fileFault}
 

@@ -10,8 +10,6 @@ use mathlib.Core.List.{List, _∷_, _++_, append-assoc}
 use lib.ListN.{length, take, drop, length-append, length-take, length-drop, take-append-drop}
 use lib.Seq.{length-take-le, take-at, drop-at, drop-drop}
 use borrow.Author.Tests.{ne-eqb}
-use Rattle.rules.specs.declared.Answer.{Answer}
-use Rattle.rules.specs.declared.Answer.the-variants.{Started, Read, Written, Committed, Failed, Aborted, Refused}
 use Rattle.rules.specs.Event.{Event}
 use Rattle.rules.specs.Cause.{firstCause, storeCauses}
 use Rattle.rules.specs.Ledger.{Ledger}

@@ -1,4 +1,5 @@
-// The words of a table: the only place that knows where a field of a row stands.
+// The words of a table: the one place that turns a row and a field into an index. (Crate `table` reads the head's fields,
+// which stand where they are numbered, from buffers of any length.)
 ghost use mathlib.Core.Path.{_≡_};
 ghost use Rattle.rules.specs.Table.{IsField, word, withWord};
 ghost use Rattle.rows.specs.Row.{HasRow};

@@ -9,6 +9,6 @@ pub mod Cards
 pub mod Bytes
 pub mod CopiedPart
 pub mod AnswerWords
-pub mod Causes
+pub mod Allowed
 pub mod EventCases
 pub mod Walking

@@ -15,7 +15,7 @@ pub record Cause : Type 0 where
   pub applies : Bool
 
 -- the number of the first cause that applies, 0 where none does; in a list by rising numbers it is the lowest
--- (proofs/Laws/Causes.antt)
+-- (proofs/Laws/Allowed.antt)
 abbrev pub firstCause : List Cause → ℕ
 firstCause [] = 0
 firstCause (c ∷ cs) = cond (c .applies) (c .number) (firstCause cs)

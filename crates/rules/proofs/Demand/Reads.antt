@@ -20,7 +20,7 @@ use Rattle.rules.specs.Ledger.{Ledger, withTable}
 use Rattle.rules.specs.Step.{readTable, read}
 use Rattle.rules.proofs.Laws.Tests.{test, cond-holds}
 use Rattle.rules.proofs.Laws.Ranges.{any-agree}
-use Rattle.rules.proofs.Laws.Causes.{allowed-none}
+use Rattle.rules.proofs.Laws.Allowed.{allowed-none}
 use Rattle.rules.proofs.Sound.Soundness.{tested}
 use Rattle.rules.proofs.Sound.TableChanges.{TableChange, live-uncommitted}
 use Rattle.rules.proofs.Sound.Reading.{read-keeps-field, read-keeps-row, read-entry, read-change}

@@ -10,7 +10,7 @@ use Rattle.rules.specs.Cause.{causeOf}
 use Rattle.rules.specs.Ledger.{Ledger}
 use Rattle.rules.specs.Step.{Outcome, start, read, write, commit, abort, act, step}
 use Rattle.rules.proofs.Laws.Tests.{cond-holds}
-use Rattle.rules.proofs.Laws.Causes.{Allowed, allowed}
+use Rattle.rules.proofs.Laws.Allowed.{Allowed, allowed}
 
 abbrev pub causeIn : Ledger → Event → ℕ
 causeIn s e = causeOf (s .table) (s .base) (s .shadow) e

@@ -17,7 +17,7 @@ use Rattle.rules.specs.Look.{Looked, lookCause, Part, emptyPart, cardPar
 use Rattle.rules.proofs.Laws.Tests.{cond-holds}
 use Rattle.rules.proofs.Laws.Walking.{nearest-started}
 use Rattle.rules.proofs.Sound.Soundness.{facts}
-use Rattle.rules.proofs.Laws.Causes.{allowed}
+use Rattle.rules.proofs.Laws.Allowed.{allowed}
 use Rattle.rules.proofs.Stores.Copies.{base-line, shadow-line, line-fits}
 
 -- RULES 3.2: its cause is the one of a read of the same action and account

@@ -1,9 +1,12 @@
 -- `day` meets its contract: a refused day puts its one line, any other is run and listed. Assumes nothing.
+use Prim.Native.Nat.{ℕ}
 use native.Mathlib.Omega.{arith}
-use mathlib.Core.Path.{refl, sym, ap, _∙_}
+use mathlib.Core.Path.{_≡_, refl, sym, ap, _∙_}
+use mathlib.Core.List.{List}
 use borrow.Author.Needs.{needs}
 use Rattle.rules.specs.Ledger.{Ledger, ledgerOf}
 use Rattle.dayread.proofs.Faultless.{faultless}
+use Rattle.dayfile.specs.Day.{dayCause, Accepts}
 use Rattle.dayfile.proofs.Days.{accepts, day-refused, day-runs, day-lines, day-given}
 use Rattle.dayfile.proofs.day.day.Statement.{statement}
 use Rattle.dayfile.proofs.day.day.Tie as tie
@@ -32,13 +35,27 @@ returns c =
     day-given s (given .file .now) (given .out .now)
     (rw (refused .0) (c .put-refused .ensures .0)) (rw (refused .0) (c .put-refused .ensures .1)) (rw (refused .1))
 
+-- behind the first test the day has no cause, and so it is run
+module _ (c : tie.Else1) where
+  abbrev given : Ledger
+  given =
+      let args = c .before .before .before .before .before .before .before .before .before .args in
+      ledgerOf (args .table .now) (args .base .now) (args .shadow .now)
+
+  abbrev file : List ℕ
+  file = c .before .before .before .before .before .before .before .before .before .args .file .now
+
+  no-cause : dayCause given file ≡ 0
+  no-cause = sym (c .before .day-cause .ensures) ∙ c .if1 .left
+
+  accepted : Accepts given file
+  accepted = accepts given file no-cause
+
 slice-aggregate-run-file : tie.Need-slice-aggregate-run-file
 slice-aggregate-run-file c = search needs
 
 run-file-requires : tie.Need-run-file-requires
-run-file-requires c κs =
-    let run = c .before .before .before .before in
-    (accepts _ _ (sym (run .before .day-cause .ensures) ∙ run .if1 .left), refl)
+run-file-requires c κs = (accepted (c .before .before .before .before), refl)
 
 slice-aggregate-put-listing : tie.Need-slice-aggregate-put-listing
 slice-aggregate-put-listing c = search needs
@@ -47,8 +64,7 @@ put-listing-requires : tie.Need-put-listing-requires
 put-listing-requires c κs =
     let ran = c .before .before .before .before .before .before .before .before .before .before in
     let clear = ran .before .before .before .before .before in
-    let a = accepts _ _ (sym (clear .before .day-cause .ensures) ∙ clear .if1 .left) in
-    let f = faultless _ (a .clean) in
+    let f = faultless (file clear) (accepted clear .clean) in
     ((omega (arith, ran .run-file .ensures .0, f .fewEvents), omega (arith, ran .run-file .ensures .0, f .fewEvents)), omega arith)
 
 same-length-4 : tie.Need-same-length-4
@@ -64,14 +80,11 @@ returns-2 : tie.Need-returns-2
 returns-2 c =
     let ran = c .before .before .before .before .before .before .before .before .before .before .before in
     let clear = ran .before .before .before .before .before in
-    let given = clear .before .before .before .before .before .before .before .before .before .args in
-    let none = sym (clear .before .day-cause .ensures) ∙ clear .if1 .left in
-    let s = ledgerOf (given .table .now) (given .base .now) (given .shadow .now) in
-    let runs = day-runs s (given .file .now) none in
+    let runs = day-runs (given clear) (file clear) (no-cause clear) in
     let (count, (leaves, words)) = ran .run-file .ensures in
     let table = ap (λ (after : Ledger). after .table) leaves in
-    let lines = day-lines s (given .file .now) _ (accepts _ _ none) words count table in
-    day-given s (given .file .now) (given .out .now)
+    let lines = day-lines (given clear) (file clear) _ (accepted clear) words count table in
+    day-given (given clear) (file clear) _
     (rw (runs .0, sym lines) (c .put-listing .ensures .0))
     (rw (runs .0, sym lines) (c .put-listing .ensures .1))
     (rw (runs .1) leaves)

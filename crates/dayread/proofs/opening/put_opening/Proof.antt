@@ -1,6 +1,6 @@
 -- `put_opening` meets its contract: the 32 bytes copied fill the part of the store that stands at the account, and the part
 -- put back into the store is the card put at its place. Assumes nothing.
-use Prim.Native.Nat.{_+_, _*_}
+use Prim.Native.Nat.{_+_}
 use native.Mathlib.Omega.{arith}
 use borrow.Author.Needs.{needs}
 use Rattle.rules.specs.Card.{basePlace}

@@ -8,7 +8,7 @@ use lib.Dec.{eqb}
 use Rattle.rules.specs.Sound.{IsStarted, Sound}
 use Rattle.rules.specs.Step.{start, read, write, abort, act}
 use Rattle.rules.proofs.Laws.Tests.{or-inl, or-inr}
-use Rattle.rules.proofs.Laws.Causes.{Allowed, allowed}
+use Rattle.rules.proofs.Laws.Allowed.{Allowed, allowed}
 use Rattle.rules.proofs.Sound.Soundness.{facts}
 use Rattle.rules.specs.Event.{eventOf, startCode, readCode, writeCode, commitCode}
 use Rattle.dispatch.proofs.act.act.Statement.{statement}

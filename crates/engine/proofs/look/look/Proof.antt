@@ -12,7 +12,7 @@ use Rattle.rules.specs.Table.{mostActions}
 use Rattle.rules.specs.Nearest.{nearest}
 use Rattle.rules.specs.Event.{readBy}
 use Rattle.rules.specs.Look.{lookCause, look, bytesOf}
-use Rattle.rules.proofs.Laws.Causes.{Allowed, allowed}
+use Rattle.rules.proofs.Laws.Allowed.{Allowed, allowed}
 use Rattle.rules.proofs.Laws.Walking.{nearest-started}
 use Rattle.rules.proofs.Sound.Soundness.{facts}
 use Rattle.rules.proofs.Stores.Looking.{look-refused-as-read, look-refused, look-given}
