@@ -11,24 +11,24 @@ use Rattle.rules.specs.Range.{upFrom, all, count}
 use Rattle.rules.specs.Card.{accountCount, accounts}
 use Rattle.rules.specs.Table.{tableLength, mostActions, live, committed, aborted, started, counter, parentOf, stateOf, endTime, hasRead, readTime, isLive, isCommitted, hasEnd, actions}
 
--- 7.4
+-- 7.4: the state's word is that of a state
 abbrev pub hasState : List ℕ → ℕ → Bool
 hasState w n = eqb (stateOf w n) live || eqb (stateOf w n) committed || eqb (stateOf w n) aborted
 
--- 7.5
+-- 7.5: the parent's number is lower
 abbrev pub hasParentBelow : List ℕ → ℕ → Bool
 hasParentBelow w n = ltb (parentOf w n) n
 
--- 7.6
+-- 7.6: where the action is live its parent is the store or live
 abbrev pub hasParentAlive : List ℕ → ℕ → Bool
 hasParentAlive w n = not (isLive w n) || (eqb (parentOf w n) 0 || isLive w (parentOf w n))
 
--- 7.7
+-- 7.7: where the action is live none of its reads is later than the counter
 unfoldable pub hasReadInTime : List ℕ → ℕ → Bool
 hasReadInTime w n =
     not (isLive w n) || all (λ k. not (hasRead w n k) || leb (readTime w n k) (counter w)) accounts
 
--- 7.8
+-- 7.8: where the action has an end time that counts, this is from 1 to the counter
 abbrev pub hasEndInTime : List ℕ → ℕ → Bool
 hasEndInTime w n = not (hasEnd w n) || (leb 1 (endTime w n) && leb (endTime w n) (counter w))
 
@@ -49,7 +49,7 @@ isSoundAction w n =
     && hasEndInTime w n
     && hasEndAlone w n
 
--- 7.1, 7.2, 7.3, and those clauses of each action
+-- 7.1 the length, 7.2 the last start, 7.3 the counter, and those clauses of each action
 unfoldable pub sound : List ℕ → Bool
 sound w =
     eqb (length w) tableLength
