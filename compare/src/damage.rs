@@ -4,9 +4,20 @@ use crate::header::*;
 use crate::library::{Lent, ABORTED, COMMITTED, COUNTER, END, LIVE, PARENT, READS, STARTED, STATE, WRITES};
 use crate::random::Random;
 
-/// A fault, or something that looks like one and that docs/RULES.md leaves free.
-#[derive(Clone, Copy)]
-pub enum Damage {
+/// An enum of kinds of damage, with the list of them all.
+macro_rules! damages {
+    ($($kind:ident),* $(,)?) => {
+        /// A fault, or something that looks like one and that docs/RULES.md leaves free.
+        #[derive(Clone, Copy)]
+        pub enum Damage {
+            $($kind),*
+        }
+
+        pub const DAMAGES: &[Damage] = &[$(Damage::$kind),*];
+    };
+}
+
+damages! {
     BaseLength,
     ShadowLength,
     TableLength,
@@ -27,26 +38,7 @@ pub enum Damage {
 use Damage::*;
 
 /// Those that make a part's length wrong.
-pub const LENGTHS: [Damage; 3] = [BaseLength, ShadowLength, TableLength];
-
-/// All of them.
-pub const DAMAGES: [Damage; 15] = [
-    BaseLength,
-    ShadowLength,
-    TableLength,
-    Started,
-    Counter,
-    UnusedHead,
-    UnusedRow,
-    NoState,
-    ParentNotBelow,
-    OtherParent,
-    OtherState,
-    LateRead,
-    EndTime,
-    WriteEntry,
-    EndTimeTwice,
-];
+pub const LENGTHS: &[Damage] = &[BaseLength, ShadowLength, TableLength];
 
 /// Lengths that are not those of the stores and of a table.
 const BASE_LENGTHS: [usize; 6] = [0, 1, BASE_BYTES - CARD_BYTES, BASE_BYTES - 1, BASE_BYTES + 1, 2 * BASE_BYTES];

@@ -52,7 +52,7 @@ fn damaged(seed: u64, history: &[Event], seen: &mut Coverage) -> Compared {
         ledger.event(e);
     }
     for _ in 0..1 + r.below(3) / 2 {
-        let kind = *r.pick(&DAMAGES);
+        let kind = *r.pick(DAMAGES);
         damage(&mut r, kind, &mut lent);
     }
     list_call(&mut r, &lent, &ledger, seen)?;

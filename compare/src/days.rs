@@ -53,7 +53,7 @@ fn any_parts(r: &mut Random) -> Lent {
     let mut lent =
         Lent { table: vec![r.next(); TABLE_WORDS], base: bytes(r, BASE_BYTES), shadow: bytes(r, SHADOW_BYTES) };
     if r.one_in(10) {
-        let kind = *r.pick(&LENGTHS);
+        let kind = *r.pick(LENGTHS);
         damage(r, kind, &mut lent);
     }
     lent
