@@ -5,14 +5,15 @@ ghost use Rattle.rules.specs.Nearest.{nearest};
 ghost use Rattle.ancestry.specs.Ancestry.{ParentsBelow, IsKnown, Readable};
 use rows::fields::has_written;
 use rows::fields::parent;
+use rules::table::STORE;
 
 // The holder of the nearest version.
 pub fn nearest(table: &[u64], n: u64, k: u64) -> u64
     requires { ⌜ Readable (now table) n k ⌝ }
     ensures { λ r. ⌜ r ≡ nearest (now (table .entry)) n k ⌝ }
 {
-    if n == 0 {
-        return 0;
+    if n == STORE {
+        return STORE;
     }
     if has_written(table, n, k) {
         return n;
@@ -27,7 +28,7 @@ pub fn is_at_or_below(table: &[u64], a: u64, m: u64) -> bool
     ensures { λ r. ⌜ r ≡ isAtOrBelow (now (table .entry)) a m ⌝ }
 {
     let mut at = m;
-    while at != 0 {
+    while at != STORE {
         if at == a {
             return true;
         }

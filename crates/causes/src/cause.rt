@@ -17,6 +17,7 @@ use rules::store::BASE_LENGTH;
 use rules::store::CARD_LENGTH;
 use rules::store::SHADOW_LENGTH;
 use rules::table::MOST_ACTIONS;
+use rules::table::STORE;
 use soundness::sound::is_sound;
 
 // Causes 1 and 2.
@@ -52,7 +53,7 @@ pub fn event_cause(table: &[u64], code: u64, number: u64, account: u64, card: &[
     if code == event::START {
         return start_cause(table, number);
     }
-    if number == 0 {
+    if number == STORE {
         return cause::NUMBER;
     }
     if !is_live(table, number) {
@@ -67,7 +68,7 @@ fn start_cause(table: &[u64], number: u64) -> u64
     requires { ⌜ number ≤ started (now table) ⌝ }
     ensures { λ r. ⌜ r ≡ firstCause (startCauses (now (table .entry)) number) ⌝ }
 {
-    if number != 0 {
+    if number != STORE {
         if !is_live(table, number) {
             return cause::NOT_LIVE;
         }

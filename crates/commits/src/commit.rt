@@ -13,6 +13,7 @@ use rows::sets::join_sets;
 use rules::Answer;
 use rules::Found;
 use rules::table::ABORTED;
+use rules::table::STORE;
 use stores::cards::take_cards;
 use stores::place::cards_place;
 use validation::search::first_clash;
@@ -29,7 +30,7 @@ fn pass(table: &mut [u64], base: &mut [u8], shadow: &mut [u8], n: u64) -> u64
 {
     let p = parent(table, n);
     let cards = take_cards(shadow, n);
-    if p == 0 {
+    if p == STORE {
         copy_cards(table, n, &cards, base, 0);
         return end(table, n);
     }

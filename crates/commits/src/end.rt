@@ -12,6 +12,7 @@ use rows::fields::set_end_time;
 use rows::fields::set_state;
 use rows::sets::has_writes;
 use rules::table::COMMITTED;
+use rules::table::NO_END;
 
 // The counter after a commit at this count, by whether it has written anything; and its end time.
 fn counter_after(writes: bool, count: u64) -> u64
@@ -25,7 +26,7 @@ fn end_time_after(writes: bool, count: u64) -> u64
     requires { ⌜ CanCount count ⌝ }
     ensures { λ r. ⌜ r ≡ cond writes (count + 1) 0 ⌝ }
 {
-    if writes { count + 1 } else { 0 }
+    if writes { count + 1 } else { NO_END }
 }
 
 // Back comes the end time.

@@ -2,12 +2,9 @@
 use Prim.Native.Nat.{ℕ, _≤_, _<_}
 use native.Mathlib.Omega.{arith}
 use mathlib.Core.Path.{_≡_}
-use mathlib.Core.Bool.{not}
 use mathlib.Core.List.{List}
-use lib.Dec.{ltb, eqb}
 use lib.ListN.{length}
 use borrow.Author.Tests.{ltb-true, ltb-false, eqb-true}
-use Rattle.rules.specs.Range.{upFrom, all}
 use Rattle.rules.specs.Card.{accountCount}
 use Rattle.rules.proofs.Laws.Tests.{and-left, not-fails, nonzero}
 use Rattle.rules.proofs.Laws.Ranges.{all-at}
@@ -27,12 +24,12 @@ pub record Faultless (file : List ℕ) : Type 0 where
 pub faultless : (file : List ℕ) → fileFault file ≡ 0 → Faultless file
 unfolding fileFault
 faultless file none₁ =
-    let (empty, none₂) = not-given (eqb (length file) 0) _ _ none₁ in
-    let (manyCards, none₃) = not-given (ltb mostCards (cardCount file)) _ _ none₂ in
-    let (cut, none₄) = not-given (ltb (length file) (eventsPlace file)) _ _ none₃ in
-    let (manyEvents, none₅) = not-given (ltb mostEvents (eventCount file)) _ _ none₄ in
-    let (wrong, none₆) = not-given (not (eqb (length file) (fileLength file))) _ _ none₅ in
-    let (unordered, none) = not-given (not (all (isRising file) (upFrom 0 (cardCount file)))) _ _ none₆ in
+    let (empty, none₂) = not-given _ _ _ none₁ in
+    let (manyCards, none₃) = not-given _ _ _ none₂ in
+    let (cut, none₄) = not-given _ _ _ none₃ in
+    let (manyEvents, none₅) = not-given _ _ _ none₄ in
+    let (wrong, none₆) = not-given _ _ _ none₅ in
+    let (unordered, none) = not-given _ _ _ none₆ in
     let rising = all-at (isRising file) 0 (cardCount file) in
     record {
       nonempty = nonzero _ .0 empty;

@@ -7,6 +7,7 @@ use causes::cause::store_cause;
 use rules::cause::NONE;
 use rules::event::READ;
 use rules::store::CARD_LENGTH;
+use rules::table::STORE;
 use stores::place::base_place;
 use stores::place::shadow_place;
 
@@ -37,7 +38,7 @@ pub fn look<'a>(
     }
     *cause = NONE;
     let holder = nearest(table, n, k);
-    if holder == 0 {
+    if holder == STORE {
         let from = base_place(k);
         let to = from + CARD_LENGTH;
         return &base[from..to];

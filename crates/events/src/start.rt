@@ -12,6 +12,7 @@ use rows::fields::set_parent;
 use rows::fields::set_state;
 use rows::sets::clear_sets;
 use rules::table::LIVE;
+use rules::table::NO_END;
 
 // The number of the new action. Every field of its row is set, whatever stood there.
 pub fn start(table: &mut [u64], p: u64) -> u64
@@ -24,7 +25,7 @@ pub fn start(table: &mut [u64], p: u64) -> u64
     set_last_start(table, n);
     set_parent(table, n, p);
     set_state(table, n, LIVE);
-    set_end_time(table, n, 0);
+    set_end_time(table, n, NO_END);
     clear_sets(table, n);
     n
 }

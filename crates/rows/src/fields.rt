@@ -8,6 +8,7 @@ use crate::words::put;
 use rules::table::COMMITTED;
 use rules::table::COUNTER_FIELD;
 use rules::table::END_FIELD;
+use rules::table::HEAD;
 use rules::table::LIVE;
 use rules::table::NO_ENTRY;
 use rules::table::PARENT_FIELD;
@@ -20,28 +21,28 @@ pub fn last_start(table: &[u64]) -> u64
     requires { ⌜ HasRow (now table) 0 ⌝ }
     ensures { λ r. ⌜ r ≡ started (now (table .entry)) ⌝ }
 {
-    get(table, 0, STARTED_FIELD)
+    get(table, HEAD, STARTED_FIELD)
 }
 
 pub fn set_last_start(table: &mut [u64], v: u64)
     requires { ⌜ HasRow (now table) 0 ⌝ }
     ensures { λ r. ⌜ now (table .exit) ≡ withStarted (now (table .entry)) v ⌝ }
 {
-    put(table, 0, STARTED_FIELD, v);
+    put(table, HEAD, STARTED_FIELD, v);
 }
 
 pub fn counter(table: &[u64]) -> u64
     requires { ⌜ HasRow (now table) 0 ⌝ }
     ensures { λ r. ⌜ r ≡ counter (now (table .entry)) ⌝ }
 {
-    get(table, 0, COUNTER_FIELD)
+    get(table, HEAD, COUNTER_FIELD)
 }
 
 pub fn set_counter(table: &mut [u64], v: u64)
     requires { ⌜ HasRow (now table) 0 ⌝ }
     ensures { λ r. ⌜ now (table .exit) ≡ withCounter (now (table .entry)) v ⌝ }
 {
-    put(table, 0, COUNTER_FIELD, v);
+    put(table, HEAD, COUNTER_FIELD, v);
 }
 
 pub fn parent(table: &[u64], n: u64) -> u64

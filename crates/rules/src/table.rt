@@ -5,6 +5,11 @@ pub const WIDTH: u64 = 67;
 
 pub const TABLE_LENGTH: usize = 4355;
 
+// The number of the store, where an action's could stand, and the head's row.
+pub const STORE: u64 = 0;
+
+pub const HEAD: u64 = 0;
+
 // Words of the head.
 pub const STARTED_FIELD: u64 = 0;
 
@@ -25,6 +30,11 @@ pub const WRITE_FIELDS: u64 = 35;
 pub const NO_ENTRY: u64 = 0;
 
 pub const ENTERED: u64 = 1;
+
+// The end time of an action that has none, and the first that one can have.
+pub const NO_END: u64 = 0;
+
+pub const FIRST_END: u64 = 1;
 
 // States.
 pub const LIVE: u64 = 1;

@@ -13,6 +13,7 @@ use rows::fields::state;
 use rules::table::ABORTED;
 use rules::table::COMMITTED;
 use rules::table::LIVE;
+use rules::table::STORE;
 
 fn has_state(table: &[u64], n: u64) -> bool
     requires { ⌜ HasRow (now table) n ⌝ }
@@ -44,7 +45,7 @@ fn has_parent_alive(table: &[u64], n: u64) -> bool
         return true;
     }
     let up = parent(table, n);
-    if up == 0 {
+    if up == STORE {
         return true;
     }
     is_live(table, up)

@@ -12,6 +12,7 @@ use rows::fields::parent;
 use rows::fields::read_entry;
 use rows::sets::has_ended;
 use rules::store::ACCOUNTS;
+use rules::table::FIRST_END;
 use rules::table::NO_ENTRY;
 
 // An entry of a read set is one more than its time.
@@ -53,7 +54,7 @@ pub(crate) fn has_end_in_time(table: &[u64], n: u64) -> bool
         return true;
     }
     let end = end_time(table, n);
-    if end < 1 {
+    if end < FIRST_END {
         return false;
     }
     end <= counter(table)

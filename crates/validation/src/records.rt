@@ -8,6 +8,9 @@ use rows::fields::last_start;
 use rows::fields::parent;
 use rows::sets::has_ended;
 
+// Stands for no record: actions are numbered from 1.
+pub(crate) const NO_RECORD: u64 = 0;
+
 fn is_record(table: &[u64], p: u64, m: u64) -> bool
     requires { ⌜ HasRow (now table) m ⌝ }
     ensures { λ r. ⌜ r ≡ isRecordOf (now (table .entry)) p m ⌝ }
@@ -28,19 +31,19 @@ fn is_sooner(table: &[u64], t: u64, m: u64, next: u64) -> bool
     if end <= t {
         return false;
     }
-    if next == 0 {
+    if next == NO_RECORD {
         return true;
     }
     end < end_time(table, next)
 }
 
-// The record of p with the smallest end time above t, 0 where there is none. The scan goes down, as the definition does.
+// The record of p with the smallest end time above t. The scan goes down, as the definition does.
 pub(crate) fn next_record(table: &[u64], p: u64, t: u64) -> u64
     requires { ⌜ Scannable (now table) ⌝ }
     ensures { λ r. ⌜ r ≡ nextAfter (now (table .entry)) t (records (now (table .entry)) p) ⌝ }
 {
     let mut m = last_start(table);
-    let mut next = 0;
+    let mut next = NO_RECORD;
     while m != 0 {
         if is_sooner(table, t, m, next) {
             if is_record(table, p, m) {

@@ -8,6 +8,7 @@ ghost use Rattle.rules.specs.Sound.{IsStarted, Sound};
 ghost use Rattle.rules.specs.Clash.{isClash, firstClash};
 ghost use Rattle.rows.specs.Row.{HasRow};
 ghost use Rattle.validation.specs.FirstRead.{firstRead};
+use crate::records::NO_RECORD;
 use crate::records::next_record;
 use rows::fields::counter;
 use rows::fields::end_time;
@@ -66,7 +67,7 @@ pub fn first_clash(table: &[u64], n: u64) -> Found
     let mut last = first_read(table, n);
     'records: loop {
         let m = next_record(table, p, last);
-        if m == 0 {
+        if m == NO_RECORD {
             break 'records Found::Nothing;
         }
         last = end_time(table, m);

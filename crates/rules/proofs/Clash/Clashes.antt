@@ -102,9 +102,7 @@ empty-of-no-member [] h = refl
 empty-of-no-member (c ∷ cs) h = absurd (h c (List·Memᴰ·head refl))
 
 pub clash-was-read : (w : List ℕ) (n m k : ℕ) → isClash w n m k ≡ true → hasRead w n k ≡ true
-clash-was-read w n m k h =
-    and-right (hasWritten w m k) (hasRead w n k)
-    (and-left (hasWritten w m k && hasRead w n k) (ltb (readTime w n k) (endTime w m)) h)
+clash-was-read w n m k h = and-right (hasWritten w m k) (hasRead w n k) (and-left (hasWritten w m k && hasRead w n k) _ h)
 
 -- a read at the time at which the record ended, or later, doesn't clash with it
 pub later-read-never-clashes : (w : List ℕ) (n m k : ℕ) → endTime w m ≤ readTime w n k → isClash w n m k ≡ false

@@ -4,7 +4,7 @@ use native.Mathlib.Omega.{arith}
 use native.Mathlib.Nat.{le-of-eq}
 use mathlib.Core.Path.{_≡_, refl, sym, ap, _∙_}
 use mathlib.Core.Logic.{_↔_, Iff·rfl, ⊎-elim, _≢_}
-use mathlib.Core.Bool.{Bool, true, false, not, cond, _||_}
+use mathlib.Core.Bool.{Bool, true, false, cond, _||_}
 use mathlib.Core.List.{List, [], _∷_, List·Memᴰ, List·Memᴰ·head, List·Memᴰ·tail, List·Memᴰ·not-nil, List·Memᴰ·cases-cons}
 use lib.ListN.{length}
 use Rattle.rules.specs.Card.{accountCount, cardLength, baseLength, shadowLength}
@@ -65,15 +65,15 @@ module _ (w base shadow : List ℕ) (e : Event) where
   pub allowed : causeOf w base shadow e ≡ 0 → Allowed w base shadow e
   unfolding causeOf causesOf storeCauses eventCauses
   allowed none₁ =
-      let (wrong, none₂) = not-given (isStoreLengthWrong base shadow) _ _ none₁ in
-      let (unsound, none₃) = not-given (not (sound w)) _ _ none₂ in
-      let (codeUnknown, none₄) = not-given (isCodeUnknown (e .code)) _ _ none₃ in
-      let (numberUnknown, none₅) = not-given (isNumberUnknown w (isStart e) (e .number)) _ _ none₄ in
-      let (notLive, none₆) = not-given (isNotLive w (e .number)) _ _ none₅ in
-      let (full, none₇) = not-given (isTableFull w (isStart e)) _ _ none₆ in
-      let (accountUnknown, none₈) = not-given (isAccountUnknown (isRead e || isWrite e) (e .account)) _ _ none₇ in
-      let (card, none₉) = not-given (isCardLengthWrong (isWrite e) (e .card)) _ _ none₈ in
-      let (childLive, none) = not-given (isChildLive w (isRead e || isWrite e || isCommit e) (e .number)) _ _ none₉ in
+      let (wrong, none₂) = not-given _ _ _ none₁ in
+      let (unsound, none₃) = not-given _ _ _ none₂ in
+      let (codeUnknown, none₄) = not-given _ _ _ none₃ in
+      let (numberUnknown, none₅) = not-given _ _ _ none₄ in
+      let (notLive, none₆) = not-given _ _ _ none₅ in
+      let (full, none₇) = not-given _ _ _ none₆ in
+      let (accountUnknown, none₈) = not-given _ _ _ none₇ in
+      let (card, none₉) = not-given _ _ _ none₈ in
+      let (childLive, none) = not-given _ _ _ none₉ in
       record {
         baseFits = stores-fit base shadow .0 wrong .0;
         shadowFits = stores-fit base shadow .0 wrong .1;
