@@ -1,6 +1,7 @@
 -- RULES 6: the serial run of R, and demand 3, in the order in which one would explain them.
 pub mod Effect
 pub mod Block
+pub mod Told
 pub mod Collect
 pub mod Schedule
 pub mod Machine

@@ -17,6 +17,7 @@ use Rattle.rules.specs.Clash.{firstClash}
 use Rattle.rules.specs.Ledger.{Ledger}
 use Rattle.rules.specs.Step.{Outcome, start, read, write, judged, commit, abort, step}
 use Rattle.rules.specs.Run.{run}
+use Rattle.rules.specs.Serial.Told.{told}
 use Rattle.rules.specs.Serial.Collect.{Known, commitsAt, laidAll, stepped, collectOne, collectFrom, unknown, storeBlock}
 use Rattle.rules.specs.Serial.Machine.{serial}
 use Rattle.rules.specs.Serial.Demand.{cardGiven, newOver, answersTo, Demand3}
@@ -52,7 +53,7 @@ module _ (got opening : ℕ → List ℕ) (i : ℕ) (e : Event) {s : Ledger} {c 
   Keeps : Outcome → Type 0
   Keeps o =
       Proper (o .after) → lookedIn (o .after) (e .number) (e .account) ≡ got i →
-      Kept got opening (o .after) (collectOne i e (o .answer) (commitsAt e (o .answer)) c)
+      Kept got opening (o .after) (collectOne i e (told (o .answer)) (commitsAt e (told (o .answer))) c)
 
   module _ (a : AllowedIn s e) where
     own : isStart e ≡ false → IsStarted (s .table) (e .number)

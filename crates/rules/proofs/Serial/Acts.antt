@@ -8,11 +8,10 @@ use mathlib.Core.Option.{Option, none, some}
 use mathlib.Core.List.{List, [], _∷_, _++_, append-nil, append-assoc}
 use lib.Dec.{eqb}
 use borrow.Author.Tests.{eq-eqb, ne-eqb}
-use Rattle.rules.specs.declared.Answer.{Answer}
-use Rattle.rules.specs.declared.Answer.the-variants.{Started, Read, Written, Committed, Failed, Aborted, Refused}
 use Rattle.rules.specs.Event.{Event}
 use Rattle.rules.specs.Serial.Effect.{Effect}
 use Rattle.rules.specs.Serial.Block.{Block, empty, read, write, child}
+use Rattle.rules.specs.Serial.Told.{Told, itBegan, itRead, itWrote, itCommitted, itDidNothing}
 use Rattle.rules.specs.Serial.Schedule.{Operation, begins, reads, writes, ends, scheduleOf}
 use Rattle.rules.specs.Serial.Reach.{Act, actOf, innermost, actsIn, atPlace}
 
@@ -64,22 +63,20 @@ module _ (i : ℕ) (xs ys : List Act) where
 
 -- it stands at the event's place, if there is one
 act-cases :
-    (P : List Act → Type 0) (j : ℕ) (e : Event) (a : Answer) → P [] →
+    (P : List Act → Type 0) (j : ℕ) (e : Event) (it : Told) → P [] →
     ((f : Option Effect) → P (record { place = j; who = e .number; account = e .account; effect = f } ∷ [])) →
-    P (actOf j e a)
+    P (actOf j e it)
 unfolding actOf
-act-cases P j e (Read v) no-act act = act none
-act-cases P j e Written no-act act = act (some (some (e .card)))
-act-cases P j e (Started n) no-act act = no-act
-act-cases P j e (Committed t) no-act act = no-act
-act-cases P j e (Failed t k) no-act act = no-act
-act-cases P j e (Aborted n) no-act act = no-act
-act-cases P j e (Refused n) no-act act = no-act
+act-cases P j e itRead no-act act = act none
+act-cases P j e itWrote no-act act = act (some (some (e .card)))
+act-cases P j e (itBegan n) no-act act = no-act
+act-cases P j e itCommitted no-act act = no-act
+act-cases P j e itDidNothing no-act act = no-act
 
-pub act-there : (i : ℕ) (e : Event) (a : Answer) → atPlace i (actOf i e a) ≡ actOf i e a
+pub act-there : (i : ℕ) (e : Event) (it : Told) → atPlace i (actOf i e it) ≡ actOf i e it
 unfolding atPlace
-act-there i e a = act-cases (λ l. atPlace i l ≡ l) i e a refl (λ f. rw (eq-eqb i i refl))
+act-there i e it = act-cases (λ l. atPlace i l ≡ l) i e it refl (λ f. rw (eq-eqb i i refl))
 
-pub act-elsewhere : (i j : ℕ) (e : Event) (a : Answer) → j ≢ i → atPlace i (actOf j e a) ≡ []
+pub act-elsewhere : (i j : ℕ) (e : Event) (it : Told) → j ≢ i → atPlace i (actOf j e it) ≡ []
 unfolding atPlace
-act-elsewhere i j e a j≢i = act-cases (λ l. atPlace i l ≡ []) j e a refl (λ f. rw (ne-eqb j i j≢i))
+act-elsewhere i j e it j≢i = act-cases (λ l. atPlace i l ≡ []) j e it refl (λ f. rw (ne-eqb j i j≢i))

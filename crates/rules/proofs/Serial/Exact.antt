@@ -13,6 +13,7 @@ use Rattle.rules.specs.declared.Answer.{Answer}
 use Rattle.rules.specs.Event.{Event}
 use Rattle.rules.specs.Serial.Effect.{Effect}
 use Rattle.rules.specs.Serial.Block.{Block}
+use Rattle.rules.specs.Serial.Told.{told}
 use Rattle.rules.specs.Serial.Collect.{Known, collectFrom, unknown, storeBlock}
 use Rattle.rules.specs.Serial.Schedule.{scheduleOf}
 use Rattle.rules.specs.Serial.Reach.{parentsAfter, isGivenTo, reachesStore, Act, actOf, actsOfR, actsIn, atPlace}
@@ -45,20 +46,20 @@ module _ (i : ℕ) where
   held-to-end j [] answers c i<j held = store-holds held
   held-to-end j (e ∷ es) [] c i<j held = store-holds held
   held-to-end {h} {l} j (e ∷ es) (a ∷ answers) c i<j held =
-      held-to-end (suc j) es answers (known-after j e a c) (omega arith)
-      (held-after j e a c (act-elsewhere i j e a (λ j≡i. omega arith)) held)
-      ∙ rw (parents-after j e a c) (lost-or-followed (isGivenTo a h) _ l)
+      held-to-end (suc j) es answers (known-after j e (told a) c) (omega arith)
+      (held-after j e (told a) c (act-elsewhere i j e (told a) (λ j≡i. omega arith)) held)
+      ∙ rw (parents-after j e (told a) c) (lost-or-followed (isGivenTo (told a) h) _ l)
 
   -- ---- what R does at place i
 
   other-place-adds-none :
       (j : ℕ) (parent : ℕ → ℕ) (e : Event) (es : List Event) (a : Answer) (answers : List Answer) → j ≢ i →
-      atPlace i (actsOfR j parent (e ∷ es) (a ∷ answers)) ≡ atPlace i (actsOfR (suc j) (parentsAfter e a parent) es answers)
+      atPlace i (actsOfR j parent (e ∷ es) (a ∷ answers)) ≡ atPlace i (actsOfR (suc j) (parentsAfter e (told a) parent) es answers)
   unfolding actsOfR
   other-place-adds-none j parent e es a answers j≢i =
-      let later = actsOfR (suc j) (parentsAfter e a parent) es answers in
-      cond-holds (λ now. atPlace i now ≡ atPlace i later) (reachesStore (parentsAfter e a parent) es answers (e .number))
-      (λ _. none-before i (actOf j e a) later (act-elsewhere i j e a j≢i))
+      let later = actsOfR (suc j) (parentsAfter e (told a) parent) es answers in
+      cond-holds (λ now. atPlace i now ≡ atPlace i later) (reachesStore (parentsAfter e (told a) parent) es answers (e .number))
+      (λ _. none-before i (actOf j e (told a)) later (act-elsewhere i j e (told a) j≢i))
       (λ _. refl)
 
   none-at-past-place :
@@ -69,23 +70,23 @@ module _ (i : ℕ) where
   none-at-past-place j parent (e ∷ es) [] i<j = refl
   none-at-past-place j parent (e ∷ es) (a ∷ answers) i<j =
       other-place-adds-none j parent e es a answers (λ j≡i. omega arith)
-      ∙ none-at-past-place (suc j) (parentsAfter e a parent) es answers (omega arith)
+      ∙ none-at-past-place (suc j) (parentsAfter e (told a) parent) es answers (omega arith)
 
   own-alone-at-place :
       (parent : ℕ → ℕ) (e : Event) (es : List Event) (a : Answer) (answers : List Answer) →
       atPlace i (actsOfR i parent (e ∷ es) (a ∷ answers))
-      ≡ cond (reachesStore (parentsAfter e a parent) es answers (e .number)) (actOf i e a) []
+      ≡ cond (reachesStore (parentsAfter e (told a) parent) es answers (e .number)) (actOf i e (told a)) []
   unfolding actsOfR
-  own-alone-at-place parent e es a answers = cases (reachesStore (parentsAfter e a parent) es answers (e .number))
+  own-alone-at-place parent e es a answers = cases (reachesStore (parentsAfter e (told a) parent) es answers (e .number))
     where
       later : List Act
-      later = actsOfR (suc i) (parentsAfter e a parent) es answers
+      later = actsOfR (suc i) (parentsAfter e (told a) parent) es answers
 
       none-later : atPlace i later ≡ []
-      none-later = none-at-past-place (suc i) (parentsAfter e a parent) es answers (omega arith)
+      none-later = none-at-past-place (suc i) (parentsAfter e (told a) parent) es answers (omega arith)
 
-      cases : (reaches : Bool) → atPlace i (cond reaches (actOf i e a ++ later) later) ≡ cond reaches (actOf i e a) []
-      cases true = none-behind i (actOf i e a) later none-later ∙ act-there i e a
+      cases : (reaches : Bool) → atPlace i (cond reaches (actOf i e (told a) ++ later) later) ≡ cond reaches (actOf i e (told a)) []
+      cases true = none-behind i (actOf i e (told a)) later none-later ∙ act-there i e (told a)
       cases false = none-later
 
   -- ---- the two agree, from any place up to i on, where nothing is held of place i yet
@@ -95,18 +96,18 @@ module _ (i : ℕ) where
 
   exact-before :
       (j : ℕ) (e : Event) (es : List Event) (a : Answer) (answers : List Answer) (c : Known) → j ≢ i →
-      ExactFrom (suc j) es answers (known-after j e a c) → ExactFrom j (e ∷ es) (a ∷ answers) c
+      ExactFrom (suc j) es answers (known-after j e (told a) c) → ExactFrom j (e ∷ es) (a ∷ answers) c
   unfolding collectFrom
   exact-before j e es a answers c j≢i later =
-      later ∙ rw (parents-after j e a c) (sym (other-place-adds-none j (c .parent) e es a answers j≢i))
+      later ∙ rw (parents-after j e (told a) c) (sym (other-place-adds-none j (c .parent) e es a answers j≢i))
 
   exact-there :
       {h : ℕ} (e : Event) (es : List Event) (a : Answer) (answers : List Answer) (c : Known) → Held i (c .block) h [] →
       ExactFrom i (e ∷ es) (a ∷ answers) c
   unfolding collectFrom
   exact-there e es a answers c clear =
-      held-to-end (suc i) es answers (known-after i e a c) (omega arith) (own-held-after e a c clear)
-      ∙ rw (parents-after i e a c) (sym (own-alone-at-place (c .parent) e es a answers))
+      held-to-end (suc i) es answers (known-after i e (told a) c) (omega arith) (own-held-after e (told a) c clear)
+      ∙ rw (parents-after i e (told a) c) (sym (own-alone-at-place (c .parent) e es a answers))
 
   exact-from :
       {h : ℕ} (j : ℕ) (es : List Event) (answers : List Answer) (c : Known) → j ≤ i → Held i (c .block) h [] →
@@ -116,10 +117,10 @@ module _ (i : ℕ) where
   exact-from j (e ∷ es) [] c j≤i clear = none-held clear 0
   exact-from j (e ∷ es) (a ∷ answers) c j≤i clear =
       cases (ℕ-discrete j i)
-      (λ j≢i. exact-from (suc j) es answers (known-after j e a c) (omega arith)
-      (none-after j e a c (act-elsewhere i j e a j≢i) clear))
+      (λ j≢i. exact-from (suc j) es answers (known-after j e (told a) c) (omega arith)
+      (none-after j e (told a) c (act-elsewhere i j e (told a) j≢i) clear))
     where
-      cases : Dec (j ≡ i) → (j ≢ i → ExactFrom (suc j) es answers (known-after j e a c)) →
+      cases : Dec (j ≡ i) → (j ≢ i → ExactFrom (suc j) es answers (known-after j e (told a) c)) →
           ExactFrom j (e ∷ es) (a ∷ answers) c
       cases (yes j≡i) later = rw j≡i (exact-there e es a answers c clear)
       cases (no j≢i) later = exact-before j e es a answers c j≢i (later j≢i)

@@ -8,11 +8,10 @@ use mathlib.Core.Bool.{cond}
 use mathlib.Core.List.{List, [], _∷_}
 use lib.Dec.{eqb}
 use borrow.Author.Tests.{eqb-true, eqb-false}
-use Rattle.rules.specs.declared.Answer.{Answer}
-use Rattle.rules.specs.declared.Answer.the-variants.{Started, Read, Written, Committed, Failed, Aborted, Refused}
 use Rattle.rules.specs.Event.{Event}
 use Rattle.rules.specs.Serial.Effect.{Effect}
 use Rattle.rules.specs.Serial.Block.{Block, empty}
+use Rattle.rules.specs.Serial.Told.{Told, itBegan, itRead, itWrote, itCommitted, itDidNothing}
 use Rattle.rules.specs.Serial.Collect.{put, Known, begun, laid, commitsAt, laidAll, stepped, collectOne, unknown}
 use Rattle.rules.specs.Serial.Reach.{Act, actOf, atPlace, parentsAfter, isGivenTo, movedUp}
 use Rattle.rules.proofs.Laws.Tests.{cond-holds, cond-same}
@@ -120,15 +119,13 @@ laidAll-held j c (n ∷ ns) held = laidAll-held j (laid j c n) ns (laid-held j c
 
 -- ---- the collector's parents are those by which R is found
 
-stepped-parent : (j : ℕ) (e : Event) (a : Answer) (c : Known) → stepped j e a c .parent ≡ parentsAfter e a (c .parent)
+stepped-parent : (j : ℕ) (e : Event) (it : Told) (c : Known) → stepped j e it c .parent ≡ parentsAfter e it (c .parent)
 unfolding stepped parentsAfter
-stepped-parent j e (Started n) c = refl
-stepped-parent j e (Read v) c = refl
-stepped-parent j e Written c = refl
-stepped-parent j e (Committed t) c = refl
-stepped-parent j e (Failed t k) c = refl
-stepped-parent j e (Aborted n) c = refl
-stepped-parent j e (Refused n) c = refl
+stepped-parent j e (itBegan n) c = refl
+stepped-parent j e itRead c = refl
+stepped-parent j e itWrote c = refl
+stepped-parent j e itCommitted c = refl
+stepped-parent j e itDidNothing c = refl
 
 laidAll-parent : (j : ℕ) (c : Known) (ns : List ℕ) → laidAll j c ns .parent ≡ c .parent
 unfolding laidAll
@@ -139,49 +136,45 @@ laidAll-parent j c (n ∷ ns) = laidAll-parent j (laid j c n) ns
 
 -- one that does nothing at place i
 stepped-held :
-    {i h : ℕ} {l : List Act} (j : ℕ) (e : Event) (a : Answer) (c : Known) → atPlace i (actOf j e a) ≡ [] →
-    Held i (c .block) h l → Held i (stepped j e a c .block) h (cond (isGivenTo a h) [] l)
+    {i h : ℕ} {l : List Act} (j : ℕ) (e : Event) (it : Told) (c : Known) → atPlace i (actOf j e it) ≡ [] →
+    Held i (c .block) h l → Held i (stepped j e it c .block) h (cond (isGivenTo it h) [] l)
 unfolding stepped isGivenTo actOf actsOf
-stepped-held j e (Started n) c not-here held = begun-held c n (e .number) held
-stepped-held {i} j e (Read v) c not-here held = same-held held (e .number) _ (none-behind i _ _ not-here)
-stepped-held {i} j e Written c not-here held = same-held held (e .number) _ (none-behind i _ _ not-here)
-stepped-held j e (Committed t) c not-here held = held
-stepped-held j e (Failed t k) c not-here held = held
-stepped-held j e (Aborted n) c not-here held = held
-stepped-held j e (Refused n) c not-here held = held
+stepped-held j e (itBegan n) c not-here held = begun-held c n (e .number) held
+stepped-held {i} j e itRead c not-here held = same-held held (e .number) _ (none-behind i _ _ not-here)
+stepped-held {i} j e itWrote c not-here held = same-held held (e .number) _ (none-behind i _ _ not-here)
+stepped-held j e itCommitted c not-here held = held
+stepped-held j e itDidNothing c not-here held = held
 
-module _ (j : ℕ) (e : Event) (a : Answer) (c : Known) where
+module _ (j : ℕ) (e : Event) (it : Told) (c : Known) where
   abbrev pub known-after : Known
-  known-after = collectOne j e a (commitsAt e a) c
+  known-after = collectOne j e it (commitsAt e it) c
 
-  pub parents-after : known-after .parent ≡ parentsAfter e a (c .parent)
+  pub parents-after : known-after .parent ≡ parentsAfter e it (c .parent)
   unfolding collectOne
-  parents-after = laidAll-parent j (stepped j e a c) (commitsAt e a) ∙ stepped-parent j e a c
+  parents-after = laidAll-parent j (stepped j e it c) (commitsAt e it) ∙ stepped-parent j e it c
 
   pub held-after :
-      {i h : ℕ} {l : List Act} → atPlace i (actOf j e a) ≡ [] → Held i (c .block) h l →
-      Held i (known-after .block) (movedUp (parentsAfter e a (c .parent)) (commitsAt e a) h) (cond (isGivenTo a h) [] l)
+      {i h : ℕ} {l : List Act} → atPlace i (actOf j e it) ≡ [] → Held i (c .block) h l →
+      Held i (known-after .block) (movedUp (parentsAfter e it (c .parent)) (commitsAt e it) h) (cond (isGivenTo it h) [] l)
   unfolding collectOne
   held-after not-here held =
-      rw (sym (stepped-parent j e a c))
-      (laidAll-held j (stepped j e a c) (commitsAt e a) (stepped-held j e a c not-here held))
+      rw (sym (stepped-parent j e it c))
+      (laidAll-held j (stepped j e it c) (commitsAt e it) (stepped-held j e it c not-here held))
 
-  pub none-after : {i h : ℕ} → atPlace i (actOf j e a) ≡ [] → Held i (c .block) h [] → Held i (known-after .block) h []
+  pub none-after : {i h : ℕ} → atPlace i (actOf j e it) ≡ [] → Held i (c .block) h [] → Held i (known-after .block) h []
   none-after {h = h} not-here clear = any-holder (rw cond-same at (held-after not-here clear)) h
 
 -- the one at place i: its read or write, if there is one, is held by the number whose it is
 pub own-held-after :
-    {i h : ℕ} (e : Event) (a : Answer) (c : Known) → Held i (c .block) h [] →
-    Held i (known-after i e a c .block) (e .number) (actOf i e a)
+    {i h : ℕ} (e : Event) (it : Told) (c : Known) → Held i (c .block) h [] →
+    Held i (known-after i e it c .block) (e .number) (actOf i e it)
 unfolding collectOne stepped commitsAt laidAll actOf actsOf
-own-held-after {i} e (Read v) c clear =
-    first-held clear (e .number) _ (none-before i _ _ (none-held clear (e .number)) ∙ act-there i e (Read v))
-own-held-after {i} e Written c clear =
-    first-held clear (e .number) _ (none-before i _ _ (none-held clear (e .number)) ∙ act-there i e Written)
-own-held-after {i} e (Started n) c clear =
-    any-holder (none-after i e (Started n) c (act-there i e (Started n)) clear) (e .number)
-own-held-after {i} e (Committed t) c clear =
-    any-holder (none-after i e (Committed t) c (act-there i e (Committed t)) clear) (e .number)
-own-held-after e (Failed t k) c clear = any-holder clear (e .number)
-own-held-after e (Aborted n) c clear = any-holder clear (e .number)
-own-held-after e (Refused n) c clear = any-holder clear (e .number)
+own-held-after {i} e itRead c clear =
+    first-held clear (e .number) _ (none-before i _ _ (none-held clear (e .number)) ∙ act-there i e itRead)
+own-held-after {i} e itWrote c clear =
+    first-held clear (e .number) _ (none-before i _ _ (none-held clear (e .number)) ∙ act-there i e itWrote)
+own-held-after {i} e (itBegan n) c clear =
+    any-holder (none-after i e (itBegan n) c (act-there i e (itBegan n)) clear) (e .number)
+own-held-after {i} e itCommitted c clear =
+    any-holder (none-after i e itCommitted c (act-there i e itCommitted) clear) (e .number)
+own-held-after e itDidNothing c clear = any-holder clear (e .number)

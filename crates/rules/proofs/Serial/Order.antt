@@ -9,10 +9,10 @@ use lib.Dec.{ltb}
 use lib.ListN.{length}
 use borrow.Author.Tests.{ltb-true, lt-ltb}
 use Rattle.rules.specs.declared.Answer.{Answer}
-use Rattle.rules.specs.declared.Answer.the-variants.{Started, Read, Written, Committed, Failed, Aborted, Refused}
 use Rattle.rules.specs.Event.{Event}
 use Rattle.rules.specs.Serial.Effect.{Effect}
 use Rattle.rules.specs.Serial.Block.{Block, empty, read, write, child}
+use Rattle.rules.specs.Serial.Told.{Told, itBegan, itRead, itWrote, itCommitted, itDidNothing, told}
 use Rattle.rules.specs.Serial.Collect.{put, Known, laid, commitsAt, laidAll, stepped, collectOne, collectFrom, unknown, storeBlock}
 use Rattle.rules.specs.Serial.Reach.{inOrder}
 use Rattle.rules.proofs.Laws.Tests.{and-left, and-right, and-both}
@@ -66,15 +66,13 @@ module _ (j : ℕ) (c : Known) (ordered : AllInOrder j (c .block)) where
       (and-both (and-both (before-next j) (rest-ordered (c .parent n))) (ordered n))
 
   -- An event adds at most one step: a second one at the same place would not stand behind the first.
-  collected-ordered : (e : Event) (a : Answer) → AllInOrder (suc j) (collectOne j e a (commitsAt e a) c .block)
+  collected-ordered : (e : Event) (it : Told) → AllInOrder (suc j) (collectOne j e it (commitsAt e it) c .block)
   unfolding collectOne stepped commitsAt laidAll inOrder
-  collected-ordered e (Started n) = put-ordered n empty refl
-  collected-ordered e (Read v) = put-ordered (e .number) _ (and-both (before-next j) (ordered (e .number)))
-  collected-ordered e Written = put-ordered (e .number) _ (and-both (before-next j) (ordered (e .number)))
-  collected-ordered e (Committed t) = laid-ordered (e .number)
-  collected-ordered e (Failed t k) = all-before-next j (c .block) ordered
-  collected-ordered e (Aborted n) = all-before-next j (c .block) ordered
-  collected-ordered e (Refused n) = all-before-next j (c .block) ordered
+  collected-ordered e (itBegan n) = put-ordered n empty refl
+  collected-ordered e itRead = put-ordered (e .number) _ (and-both (before-next j) (ordered (e .number)))
+  collected-ordered e itWrote = put-ordered (e .number) _ (and-both (before-next j) (ordered (e .number)))
+  collected-ordered e itCommitted = laid-ordered (e .number)
+  collected-ordered e itDidNothing = all-before-next j (c .block) ordered
 
 -- t: a place that S doesn't pass
 ordered-to-end :
@@ -84,7 +82,7 @@ unfolding collectFrom
 ordered-to-end j t [] answers c fits ordered = all-later (omega arith) (c .block) ordered
 ordered-to-end j t (e ∷ es) [] c fits ordered = all-later (omega arith) (c .block) ordered
 ordered-to-end j t (e ∷ es) (a ∷ answers) c fits ordered =
-    ordered-to-end (suc j) t es answers (collectOne j e a (commitsAt e a) c) (omega arith) (collected-ordered j c ordered e a)
+    ordered-to-end (suc j) t es answers _ (omega arith) (collected-ordered j c ordered e (told a))
 
 pub in-order : (es : List Event) (answers : List Answer) → inOrder (length es) (storeBlock es answers) ≡ true
 unfolding storeBlock unknown inOrder

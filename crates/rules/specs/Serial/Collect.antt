@@ -6,10 +6,10 @@ use mathlib.Core.Option.{some}
 use mathlib.Core.List.{List, [], _∷_}
 use lib.Dec.{eqb}
 use Rattle.rules.specs.declared.Answer.{Answer}
-use Rattle.rules.specs.declared.Answer.the-variants.{Started, Read, Written, Committed, Failed, Aborted, Refused}
 use Rattle.rules.specs.Event.{Event}
 use Rattle.rules.specs.Serial.Effect.{Effect}
 use Rattle.rules.specs.Serial.Block.{Block, empty, read, write, child}
+use Rattle.rules.specs.Serial.Told.{Told, itBegan, itRead, itWrote, itCommitted, itDidNothing, told}
 
 -- f with v at n
 unfoldable pub put : {A : Type 0} → (ℕ → A) → ℕ → A → ℕ → A
@@ -32,40 +32,36 @@ laid i c n =
     record { parent = c .parent; block = put rest p (child (rest p) i n (c .block n)) }
 
 -- who commits at an event, as a list in the order of the commits
-unfoldable pub commitsAt : Event → Answer → List ℕ
-commitsAt e (Committed t) = e .number ∷ []
-commitsAt e (Started n) = []
-commitsAt e (Read v) = []
-commitsAt e Written = []
-commitsAt e (Failed t k) = []
-commitsAt e (Aborted n) = []
-commitsAt e (Refused n) = []
+unfoldable pub commitsAt : Event → Told → List ℕ
+commitsAt e itCommitted = e .number ∷ []
+commitsAt e (itBegan n) = []
+commitsAt e itRead = []
+commitsAt e itWrote = []
+commitsAt e itDidNothing = []
 
 unfoldable pub laidAll : ℕ → Known → List ℕ → Known
 laidAll i c [] = c
 laidAll i c (n ∷ ns) = laidAll i (laid i c n) ns
 
--- an action's own step at place i: a start, a read or a write, where the answer says that it took place
-unfoldable pub stepped : ℕ → Event → Answer → Known → Known
-stepped i e (Started n) c = begun c n (e .number)
-stepped i e (Read v) c =
+-- an action's own step at place i: a start, a read or a write that took place
+unfoldable pub stepped : ℕ → Event → Told → Known → Known
+stepped i e (itBegan n) c = begun c n (e .number)
+stepped i e itRead c =
     record { parent = c .parent; block = put (c .block) (e .number) (read (c .block (e .number)) i (e .account)) }
-stepped i e Written c =
+stepped i e itWrote c =
     record { parent = c .parent; block = put (c .block) (e .number) (write (c .block (e .number)) i (e .account) (some (e .card))) }
-stepped i e (Committed t) c = c
-stepped i e (Failed t k) c = c
-stepped i e (Aborted n) c = c
-stepped i e (Refused n) c = c
+stepped i e itCommitted c = c
+stepped i e itDidNothing c = c
 
--- one event, its answer, and who commits at it
-unfoldable pub collectOne : ℕ → Event → Answer → List ℕ → Known → Known
-collectOne i e a commits c = laidAll i (stepped i e a c) commits
+-- one event, what its answer tells, and who commits at it
+unfoldable pub collectOne : ℕ → Event → Told → List ℕ → Known → Known
+collectOne i e it commits c = laidAll i (stepped i e it c) commits
 
 -- the events from place i on
 unfoldable pub collectFrom : ℕ → List Event → List Answer → Known → Known
 collectFrom i [] answers c = c
 collectFrom i (e ∷ es) [] c = c
-collectFrom i (e ∷ es) (a ∷ answers) c = collectFrom (suc i) es answers (collectOne i e a (commitsAt e a) c)
+collectFrom i (e ∷ es) (a ∷ answers) c = collectFrom (suc i) es answers (collectOne i e (told a) (commitsAt e (told a)) c)
 
 -- before S nothing is known
 unfoldable pub unknown : Known

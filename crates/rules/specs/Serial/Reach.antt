@@ -6,32 +6,28 @@ use mathlib.Core.Option.{Option, none, some}
 use mathlib.Core.List.{List, [], _∷_, _++_}
 use lib.Dec.{ltb, eqb}
 use Rattle.rules.specs.declared.Answer.{Answer}
-use Rattle.rules.specs.declared.Answer.the-variants.{Started, Read, Written, Committed, Failed, Aborted, Refused}
 use Rattle.rules.specs.Event.{Event}
 use Rattle.rules.specs.Serial.Effect.{Effect}
 use Rattle.rules.specs.Serial.Block.{Block, empty, read, write, child}
+use Rattle.rules.specs.Serial.Told.{Told, itBegan, itRead, itWrote, itCommitted, itDidNothing, told}
 use Rattle.rules.specs.Serial.Collect.{put, commitsAt}
 use Rattle.rules.specs.Serial.Schedule.{Operation, begins, reads, writes, ends}
 
 -- the parents, after an event
-unfoldable pub parentsAfter : Event → Answer → (ℕ → ℕ) → ℕ → ℕ
-parentsAfter e (Started n) parent = put parent n (e .number)
-parentsAfter e (Read v) parent = parent
-parentsAfter e Written parent = parent
-parentsAfter e (Committed t) parent = parent
-parentsAfter e (Failed t k) parent = parent
-parentsAfter e (Aborted n) parent = parent
-parentsAfter e (Refused n) parent = parent
+unfoldable pub parentsAfter : Event → Told → (ℕ → ℕ) → ℕ → ℕ
+parentsAfter e (itBegan n) parent = put parent n (e .number)
+parentsAfter e itRead parent = parent
+parentsAfter e itWrote parent = parent
+parentsAfter e itCommitted parent = parent
+parentsAfter e itDidNothing parent = parent
 
--- the answer gives number n to a new action
-unfoldable pub isGivenTo : Answer → ℕ → Bool
-isGivenTo (Started m) n = eqb n m
-isGivenTo (Read v) n = false
-isGivenTo Written n = false
-isGivenTo (Committed t) n = false
-isGivenTo (Failed t k) n = false
-isGivenTo (Aborted m) n = false
-isGivenTo (Refused m) n = false
+-- number n is given to a new action
+unfoldable pub isGivenTo : Told → ℕ → Bool
+isGivenTo (itBegan m) n = eqb n m
+isGivenTo itRead n = false
+isGivenTo itWrote n = false
+isGivenTo itCommitted n = false
+isGivenTo itDidNothing n = false
 
 -- the number to follow after those have committed who commit at an event
 unfoldable pub movedUp : (ℕ → ℕ) → List ℕ → ℕ → ℕ
@@ -44,9 +40,9 @@ unfoldable pub reachesStore : (ℕ → ℕ) → List Event → List Answer → �
 reachesStore parent [] answers n = eqb n 0
 reachesStore parent (e ∷ es) [] n = eqb n 0
 reachesStore parent (e ∷ es) (a ∷ answers) n =
-    let now = parentsAfter e a parent in
-    let later = reachesStore now es answers (movedUp now (commitsAt e a) n) in
-    cond (isGivenTo a n) false later
+    let now = parentsAfter e (told a) parent in
+    let later = reachesStore now es answers (movedUp now (commitsAt e (told a)) n) in
+    cond (isGivenTo (told a) n) false later
 
 -- a read or a write: its place in S, whose it is, its account, and what it does there
 pub record Act : Type 0 where
@@ -56,23 +52,22 @@ pub record Act : Type 0 where
   -- none for a read
   pub effect : Option Effect
 
--- an event's read or write, where the answer says that it took place
-unfoldable pub actOf : ℕ → Event → Answer → List Act
-actOf i e (Read v) = record { place = i; who = e .number; account = e .account; effect = none } ∷ []
-actOf i e Written = record { place = i; who = e .number; account = e .account; effect = some (some (e .card)) } ∷ []
-actOf i e (Started n) = []
-actOf i e (Committed t) = []
-actOf i e (Failed t k) = []
-actOf i e (Aborted n) = []
-actOf i e (Refused n) = []
+-- an event's read or write, where one took place
+unfoldable pub actOf : ℕ → Event → Told → List Act
+actOf i e itRead = record { place = i; who = e .number; account = e .account; effect = none } ∷ []
+actOf i e itWrote = record { place = i; who = e .number; account = e .account; effect = some (some (e .card)) } ∷ []
+actOf i e (itBegan n) = []
+actOf i e itCommitted = []
+actOf i e itDidNothing = []
 
 -- every read and write of the actions in R, in the order of S, from place i on
 unfoldable pub actsOfR : ℕ → (ℕ → ℕ) → List Event → List Answer → List Act
 actsOfR i parent [] answers = []
 actsOfR i parent (e ∷ es) [] = []
 actsOfR i parent (e ∷ es) (a ∷ answers) =
-    let later = actsOfR (suc i) (parentsAfter e a parent) es answers in
-    cond (reachesStore (parentsAfter e a parent) es answers (e .number)) (actOf i e a ++ later) later
+    let now = parentsAfter e (told a) parent in
+    let later = actsOfR (suc i) now es answers in
+    cond (reachesStore now es answers (e .number)) (actOf i e (told a) ++ later) later
 
 -- the innermost of the actions under way, 0 where there is none, and those round it
 abbrev pub innermost : List ℕ → ℕ
