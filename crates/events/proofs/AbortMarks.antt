@@ -13,7 +13,7 @@ use Rattle.rules.specs.Range.{upFrom, count, fold}
 use Rattle.rules.specs.Table.{width, live, aborted, startedField, parentField, stateField, word, started, parentOf, stateOf, withState, actions}
 use Rattle.rules.specs.Step.{isAbortedBy, abortTable}
 use Rattle.rules.proofs.Laws.Ranges.{count-at-most, count-left-here, count-left-next, count-left-done, fold-left-next, fold-left-done}
-use Rattle.rules.proofs.Laws.Walking.{atOrBelow-agree}
+use Rattle.rules.proofs.Laws.Walking.{started-climbs, atOrBelow-agree}
 use Rattle.rules.proofs.Laws.Words.{withWord-length, word-other-row, word-off-field}
 use Rattle.ancestry.specs.Ancestry.{ParentsBelow}
 
@@ -80,7 +80,7 @@ module _ (w : List ℕ) (n : ℕ) where
       test-kept : m ≤ started w → isAbortedBy v n m ≡ isAbortedBy w n m
       test-kept h =
           ap₂ _&&_ (ap (λ x. eqb x live) (r .states m (le-refl m)))
-          (atOrBelow-agree w (s .few) (s .below) v (λ x _. same-parent x) n m h)
+          (atOrBelow-agree w v same-parent n m (started-climbs w (s .few) (s .below) m h))
 
       -- action m is passed over, or it is marked
       pub reached-over : m ≤ started w → isAbortedBy v n m ≡ false → Reached w n v found (m + 1)

@@ -11,4 +11,5 @@ pub mod CopiedPart
 pub mod AnswerWords
 pub mod Allowed
 pub mod EventCases
+pub mod Climbing
 pub mod Walking

@@ -17,7 +17,7 @@ use Rattle.rules.specs.Nearest.{nearest}
 use Rattle.rules.specs.Ledger.{Ledger}
 use Rattle.rules.specs.Serial.Effect.{over}
 use Rattle.rules.proofs.Laws.Tests.{and-left, and-right, and-both}
-use Rattle.rules.proofs.Laws.Walking.{nearest-store, nearest-step}
+use Rattle.rules.proofs.Laws.Walking.{depth, depth-step, sound-climbs, nearest-store, nearest-step}
 use Rattle.rules.proofs.Serial.Values.{over-none}
 use Rattle.rules.proofs.Serial.AbstractState.{Tree}
 use Rattle.rules.proofs.Demand.Abstraction.{isAlive, cardOf, effectOf, viewOf, hasReadAccount, abstraction}
@@ -144,7 +144,9 @@ module _ (s : Ledger) (proper : Proper s) where
       (X : ℕ) → IsStarted (s .table) X → (k : ℕ) → k < accountCount →
       viewOf s X k ≡ cond (hasWritten (s .table) X k) (cardAt (s .shadow) (shadowPlace X k)) (viewOf s (parentOf (s .table) X) k)
   view-step X begun k account =
-      view-account s X k account ∙ rw (nearest-step (s .table) (proper .sound) X k begun) (cases (hasWritten (s .table) X k))
+      view-account s X k account
+      ∙ rw (nearest-step (s .table) X k (λ z. omega (arith, begun)) (sound-climbs (proper .sound) X (begun .1)))
+      (cases (hasWritten (s .table) X k))
     where
       cases :
           (b : Bool) →
@@ -162,7 +164,11 @@ module _ (s : Ledger) (proper : Proper s) where
       (λ beyond.
       rw (effect-no-account s X k beyond, over-none, view-no-account s X k beyond, view-no-account s (parentOf (s .table) X) k beyond))
 
-  -- the rank is the number itself, since parents are below
+  deeper-than-parent : (X : ℕ) → IsStarted (s .table) X → depth (s .table) (parentOf (s .table) X) < depth (s .table) X
+  deeper-than-parent X begun =
+      rw (depth-step (s .table) X (λ z. omega (arith, begun)) (sound-climbs (proper .sound) X (begun .1))) (omega arith)
+
+  -- the rank is the depth
   pub abstract-tree : Tree (abstraction s)
   abstract-tree =
       record {
@@ -170,6 +176,6 @@ module _ (s : Ledger) (proper : Proper s) where
         store-view = store-view s;
         parent-held = parent-alive;
         live-view = λ X l. effect-over-parent X (alive-started (s .table) X l);
-        rank = λ X. X;
-        rank-falls = λ X l. proper .sound .below X (alive-started (s .table) X l);
+        rank = depth (s .table);
+        rank-falls = λ X l. deeper-than-parent X (alive-started (s .table) X l);
       }

@@ -1,7 +1,6 @@
--- Going up the parents. Where they fall, a bound on the moves that is large enough makes no difference; so the nearest
--- version in a sound table, and what is at or below an action, follow from the action and its parent. Assumes nothing.
+-- Going up the parents. A bound on the moves that leads to the store makes no difference; so the nearest version, the depth,
+-- and what is at or below an action follow from the action and its parent. Assumes nothing.
 use Prim.Native.Nat.{ℕ, zero, suc, _≤_, _<_}
-use native.Mathlib.Nat.{le-refl}
 use native.Mathlib.Omega.{arith}
 use mathlib.Core.Path.{_≡_, refl, sym, ap, _∙_}
 use mathlib.Core.Logic.{_≢_}
@@ -14,16 +13,9 @@ use Rattle.rules.specs.Walk.{walkUp, isAtOrBelow}
 use Rattle.rules.specs.Nearest.{nearest}
 use Rattle.rules.specs.Sound.{IsStarted, Sound}
 use Rattle.rules.proofs.Laws.Tests.{or-inl, or-neither, cond-holds}
+use Rattle.rules.proofs.Laws.Climbing.{climbs, climbs-nowhere, climbs-parent, climbs-more, falling-climbs}
 
 -- ---- any walk
-
--- m is one of the numbers from 1 to the last
-abbrev pub UpTo : ℕ → ℕ → Type 0
-UpTo last m = (1 ≤ m) × (m ≤ last)
-
--- each of them has its parent below it
-abbrev pub Falls : (ℕ → ℕ) → ℕ → Type 0
-Falls parent last = (m : ℕ) → UpTo last m → parent m < m
 
 module _ {A : Type 0} (parent : ℕ → ℕ) (top : A) (here : ℕ → A → A) where
   pub walk-store : (moves : ℕ) → walkUp parent top here moves 0 ≡ top
@@ -31,56 +23,87 @@ module _ {A : Type 0} (parent : ℕ → ℕ) (top : A) (here : ℕ → A → A) 
   walk-store zero = refl
   walk-store (suc moves) = refl
 
-  walk-move : (moves n : ℕ) → 1 ≤ n → walkUp parent top here (suc moves) n ≡ here n (walkUp parent top here moves (parent n))
+  walk-move : (moves n : ℕ) → n ≢ 0 → walkUp parent top here (suc moves) n ≡ here n (walkUp parent top here moves (parent n))
   unfolding walkUp
-  walk-move moves n h = rw (ne-eqb n 0 (λ e. omega arith))
+  walk-move moves n action = rw (ne-eqb n 0 action)
 
-  -- What holds at the store, and at an action where it holds at its parent, holds of every walk that has moves enough.
+  -- What holds at the store, and at an action where it holds at its parent, holds of every walk that reaches the store.
   pub walk-holds :
-      (last : ℕ) → Falls parent last → (P : ℕ → A → Type 0) → P 0 top →
-      ((m : ℕ) → UpTo last m → (above : A) → P (parent m) above → P m (here m above)) →
-      (moves n : ℕ) → n ≤ last → n ≤ moves → P n (walkUp parent top here moves n)
+      (P : ℕ → A → Type 0) → P 0 top → ((m : ℕ) → m ≢ 0 → (above : A) → P (parent m) above → P m (here m above)) →
+      (moves n : ℕ) → climbs parent moves n ≡ true → P n (walkUp parent top here moves n)
   unfolding walkUp
-  walk-holds last falls P store action zero n known enough = let e : n ≡ 0 = omega arith in rw e store
-  walk-holds last falls P store action (suc moves) n known enough =
+  walk-holds P store action zero n up = rw (climbs-nowhere parent n up) store
+  walk-holds P store action (suc moves) n up =
       cond-holds (P n) (eqb n 0)
       (λ e. rw (eqb-true n 0 e) store)
       (λ e.
-      let ne : n ≢ 0 = eqb-false n 0 e in
-      let down = falls n (omega arith) in
-      action n (omega arith) _ (walk-holds last falls P store action moves (parent n) (omega arith) (omega arith)))
+      let ne = eqb-false n 0 e in
+      action n ne _ (walk-holds P store action moves (parent n) (climbs-parent parent moves n ne up)))
 
--- Two walks agree where, on the numbers up to the last, their parents agree and what they make of an action does. Each has
--- moves enough; they need not be as many.
+-- Two walks from n agree where, on n and what is above it, their parents agree and what they make of an action does. `On` holds
+-- of all these. Each bound reaches the store; they need not be the same.
 pub walk-agree :
-    {A : Type 0} (parent parent′ : ℕ → ℕ) (top : A) (here here′ : ℕ → A → A) (last : ℕ) → Falls parent last →
-    ((m : ℕ) → UpTo last m → parent′ m ≡ parent m) → ((m : ℕ) → UpTo last m → (above : A) → here′ m above ≡ here m above) →
-    (a b n : ℕ) → n ≤ last → n ≤ a → n ≤ b → walkUp parent′ top here′ a n ≡ walkUp parent top here b n
-walk-agree {A} parent parent′ top here here′ last falls parents heres a b n known enoughA enoughB =
-    walk-holds parent top here last falls Other (λ moves enough. walk-store parent′ top here′ moves) action
-    b n known enoughB a enoughA
+    {A : Type 0} (parent parent′ : ℕ → ℕ) (top : A) (here here′ : ℕ → A → A) (On : ℕ → Type 0) →
+    ((m : ℕ) → m ≢ 0 → On m → On (parent m)) → ((m : ℕ) → m ≢ 0 → On m → parent′ m ≡ parent m) →
+    ((m : ℕ) → m ≢ 0 → On m → (above : A) → here′ m above ≡ here m above) →
+    (a b n : ℕ) → On n → climbs parent a n ≡ true → climbs parent b n ≡ true →
+    walkUp parent′ top here′ a n ≡ walkUp parent top here b n
+walk-agree {A} parent parent′ top here here′ On above-on parents heres a b n on up-a up-b =
+    walk-holds parent top here Other (λ _ moves _. walk-store parent′ top here′ moves) action b n up-b on a up-a
   where
     -- the other walk from m comes to this
     Other : ℕ → A → Type 0
-    Other m this = (moves : ℕ) → m ≤ moves → walkUp parent′ top here′ moves m ≡ this
+    Other m this = On m → (moves : ℕ) → climbs parent moves m ≡ true → walkUp parent′ top here′ moves m ≡ this
 
-    action : (m : ℕ) → UpTo last m → (above : A) → Other (parent m) above → Other m (here m above)
-    action m h above up zero enough = absurd (omega arith)
-    action m h above up (suc moves) enough =
-        let down = falls m h in
-        rw (walk-move parent′ top here′ moves m (h .0), parents m h, up moves (omega arith)) (heres m h above)
+    action : (m : ℕ) → m ≢ 0 → (above : A) → Other (parent m) above → Other m (here m above)
+    action m ne above same on zero up = absurd (ne (climbs-nowhere parent m up))
+    action m ne above same on (suc moves) up =
+        rw (
+          walk-move parent′ top here′ moves m ne,
+          parents m ne on,
+          same (above-on m ne on) moves (climbs-parent parent moves m ne up),
+        )
+        (heres m ne on above)
 
-module _ {A : Type 0} (parent : ℕ → ℕ) (top : A) (here : ℕ → A → A) (last : ℕ) (falls : Falls parent last) where
-  pub walk-any-moves : (a b n : ℕ) → n ≤ last → n ≤ a → n ≤ b → walkUp parent top here a n ≡ walkUp parent top here b n
-  walk-any-moves = walk-agree parent parent top here here last falls (λ m h. refl) (λ m h above. refl)
+module _ {A : Type 0} (parent : ℕ → ℕ) (top : A) (here : ℕ → A → A) where
+  pub walk-any-moves :
+      (a b n : ℕ) → climbs parent a n ≡ true → climbs parent b n ≡ true → walkUp parent top here a n ≡ walkUp parent top here b n
+  walk-any-moves a b n =
+      walk-agree parent parent top here here (λ _. Unit {0}) (λ m _ _. tt) (λ m _ _. refl) (λ m _ _ above. refl) a b n tt
 
   pub walk-step :
-      (moves n : ℕ) → UpTo last n → n ≤ moves → walkUp parent top here moves n ≡ here n (walkUp parent top here moves (parent n))
-  walk-step zero n h enough = absurd (omega arith)
-  walk-step (suc moves) n h enough =
-      let down = falls n h in
-      walk-move parent top here moves n (h .0)
-      ∙ ap (here n) (walk-any-moves moves (suc moves) (parent n) (omega arith) (omega arith) (omega arith))
+      (moves n : ℕ) → n ≢ 0 → climbs parent moves n ≡ true →
+      walkUp parent top here moves n ≡ here n (walkUp parent top here moves (parent n))
+  walk-step zero n ne up = absurd (ne (climbs-nowhere parent n up))
+  walk-step (suc moves) n ne up =
+      let above = climbs-parent parent moves n ne up in
+      walk-move parent top here moves n ne
+      ∙ ap (here n) (walk-any-moves moves (suc moves) (parent n) above (climbs-more parent moves (parent n) above))
+
+-- ---- in a table
+
+-- from n the store is reached, in as many moves as there can be actions
+abbrev pub Climbs : List ℕ → ℕ → Type 0
+Climbs w n = climbs (parentOf w) mostActions n ≡ true
+
+-- each started action has its parent below it
+abbrev pub Falls : List ℕ → Type 0
+Falls w = (m : ℕ) → IsStarted w m → parentOf w m < m
+
+pub started-climbs : (w : List ℕ) → started w ≤ mostActions → Falls w → (n : ℕ) → n ≤ started w → Climbs w n
+started-climbs w few falls n known = falling-climbs (parentOf w) (started w) falls mostActions n known (omega arith)
+
+pub sound-climbs : {w : List ℕ} → Sound w → (n : ℕ) → n ≤ started w → Climbs w n
+sound-climbs {w} s = started-climbs w (s .few) (s .below)
+
+-- ---- the depth: 0 of the store, 1 of a topaction, and so on
+
+unfoldable pub depth : List ℕ → ℕ → ℕ
+depth w n = walkUp (parentOf w) 0 (λ m above. suc above) mostActions n
+
+pub depth-step : (w : List ℕ) (n : ℕ) → n ≢ 0 → Climbs w n → depth w n ≡ suc (depth w (parentOf w n))
+unfolding depth
+depth-step w n = walk-step _ _ _ mostActions n
 
 -- ---- the nearest version
 
@@ -88,28 +111,29 @@ pub nearest-store : (w : List ℕ) (k : ℕ) → nearest w 0 k ≡ 0
 unfolding nearest
 nearest-store w k = walk-store _ _ _ mostActions
 
-module _ (w : List ℕ) (s : Sound w) where
-  pub nearest-step : (n k : ℕ) → IsStarted w n → nearest w n k ≡ cond (hasWritten w n k) n (nearest w (parentOf w n) k)
+module _ (w : List ℕ) (n k : ℕ) where
+  pub nearest-step : n ≢ 0 → Climbs w n → nearest w n k ≡ cond (hasWritten w n k) n (nearest w (parentOf w n) k)
   unfolding nearest
-  nearest-step n k h = walk-step _ _ _ (started w) (s .below) mostActions n h (omega arith)
-
-  -- it is the store, the action itself or one that started before
-  pub nearest-started : (n k : ℕ) → n ≤ started w → nearest w n k ≤ n
-  unfolding nearest
-  nearest-started n k known =
-      walk-holds _ _ _ (started w) (s .below) (λ m near. near ≤ m)
-      (le-refl 0)
-      (λ m h near low. let down = s .below m h in cond-holds (λ x. x ≤ m) (hasWritten w m k) (λ e. le-refl m) (λ e. omega arith))
-      mostActions n known (omega arith)
+  nearest-step = walk-step _ _ _ mostActions n
 
   -- an action that is the nearest version has the account in its write set
-  pub nearest-written : (n k : ℕ) → n ≤ started w → nearest w n k ≢ 0 → hasWritten w (nearest w n k) k ≡ true
+  pub nearest-written : Climbs w n → nearest w n k ≢ 0 → hasWritten w (nearest w n k) k ≡ true
   unfolding nearest
-  nearest-written n k known =
-      walk-holds _ _ _ (started w) (s .below) (λ m near. near ≢ 0 → hasWritten w near k ≡ true)
+  nearest-written =
+      walk-holds _ _ _ (λ m near. near ≢ 0 → hasWritten w near k ≡ true)
       (λ ne. absurd (ne refl))
-      (λ m h near written. cond-holds (λ x. x ≢ 0 → hasWritten w x k ≡ true) (hasWritten w m k) (λ e ne. e) (λ e. written))
-      mostActions n known (omega arith)
+      (λ m _ near written. cond-holds (λ x. x ≢ 0 → hasWritten w x k ≡ true) (hasWritten w m k) (λ e ne. e) (λ e. written))
+      mostActions n
+
+-- it is the store, or an action that has started
+pub nearest-started : (w : List ℕ) → Sound w → (n k : ℕ) → n ≤ started w → nearest w n k ≤ started w
+unfolding nearest
+nearest-started w s n k known =
+    walk-holds _ _ _ (λ m near. m ≤ started w → near ≤ started w)
+    (λ h. h)
+    (λ m ne near above h.
+    cond-holds (λ x. x ≤ started w) (hasWritten w m k) (λ e. h) (λ e. above (omega (arith, s .below m (omega arith)))))
+    mostActions n (sound-climbs s n known) known
 
 -- ---- at or below an action
 
@@ -117,23 +141,23 @@ pub atOrBelow-store : (w : List ℕ) (a : ℕ) → isAtOrBelow w a 0 ≡ false
 unfolding isAtOrBelow
 atOrBelow-store w a = walk-store _ _ _ mostActions
 
-module _ (w : List ℕ) (few : started w ≤ mostActions) (falls : Falls (parentOf w) (started w)) where
-  pub atOrBelow-step : (a m : ℕ) → IsStarted w m → isAtOrBelow w a m ≡ (eqb m a || isAtOrBelow w a (parentOf w m))
+module _ (w : List ℕ) where
+  pub atOrBelow-step : (a m : ℕ) → m ≢ 0 → Climbs w m → isAtOrBelow w a m ≡ (eqb m a || isAtOrBelow w a (parentOf w m))
   unfolding isAtOrBelow
-  atOrBelow-step a m h = walk-step _ _ _ (started w) falls mostActions m h (omega arith)
+  atOrBelow-step a m = walk-step _ _ _ mostActions m
 
-  pub atOrBelow-itself : (m : ℕ) → IsStarted w m → isAtOrBelow w m m ≡ true
-  atOrBelow-itself m h = atOrBelow-step m m h ∙ or-inl _ (eq-eqb m m refl)
+  pub atOrBelow-itself : (m : ℕ) → m ≢ 0 → Climbs w m → isAtOrBelow w m m ≡ true
+  atOrBelow-itself m ne up = atOrBelow-step m m ne up ∙ or-inl _ (eq-eqb m m refl)
 
   -- where an action's parent is at or below another, so is the action
-  pub notBelow-parent : (a m : ℕ) → IsStarted w m → isAtOrBelow w a m ≡ false → isAtOrBelow w a (parentOf w m) ≡ false
-  notBelow-parent a m h out = or-neither (eqb m a) _ (sym (atOrBelow-step a m h) ∙ out) .1
+  pub notBelow-parent :
+      (a m : ℕ) → m ≢ 0 → Climbs w m → isAtOrBelow w a m ≡ false → isAtOrBelow w a (parentOf w m) ≡ false
+  notBelow-parent a m ne up out = or-neither (eqb m a) _ (sym (atOrBelow-step a m ne up) ∙ out) .1
 
   -- another table with the same parents
   pub atOrBelow-agree :
-      (v : List ℕ) → ((m : ℕ) → IsStarted w m → parentOf v m ≡ parentOf w m) →
-      (a m : ℕ) → m ≤ started w → isAtOrBelow v a m ≡ isAtOrBelow w a m
+      (v : List ℕ) → ((m : ℕ) → parentOf v m ≡ parentOf w m) →
+      (a m : ℕ) → Climbs w m → isAtOrBelow v a m ≡ isAtOrBelow w a m
   unfolding isAtOrBelow
-  atOrBelow-agree v parents a m known =
-      walk-agree _ _ _ _ _ (started w) falls parents (λ n h above. refl)
-      mostActions mostActions m known (omega arith) (omega arith)
+  atOrBelow-agree v parents a m up =
+      walk-agree _ _ _ _ _ (λ _. Unit {0}) (λ n _ _. tt) (λ n _ _. parents n) (λ n _ _ above. refl) mostActions mostActions m tt up up

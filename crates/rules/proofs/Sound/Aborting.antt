@@ -22,7 +22,7 @@ use Rattle.rules.proofs.Laws.Tests.{and-left, and-right, and-both, not-
 use Rattle.rules.proofs.Laws.Ranges.{count-some, any-at, count-agree, fold-keeps, fold-puts}
 use Rattle.rules.proofs.Laws.Words.{withWord-length, word-same, word-other-row, word-off-field}
 use Rattle.rules.proofs.Sound.TableChanges.{TableChange, writes-agree}
-use Rattle.rules.proofs.Laws.Walking.{atOrBelow-itself, notBelow-parent}
+use Rattle.rules.proofs.Laws.Walking.{sound-climbs, atOrBelow-itself, notBelow-parent}
 
 -- ---- the table after an abort of n
 
@@ -115,7 +115,8 @@ module _ (w : List ℕ) (n : ℕ) where
     parent-left m h l p one =
         let out = not-true (isAtOrBelow w n m) (and-right (isLive w m) _ (sym (abort-live m h) ∙ l)) in
         let below = s .below m h in
-        rw (abort-live (parentOf w m) (omega arith)) (and-both p (ap not (notBelow-parent w (s .few) (s .below) n m h out)))
+        rw (abort-live (parentOf w m) (omega arith)) 
+        (and-both p (ap not (notBelow-parent w n m (λ z. omega arith) (sound-climbs s m (h .1)) out)))
 
     -- what becomes aborted was live, not committed
     committed-kept : (m : ℕ) → IsStarted w m → isCommitted (abortTable w n) m ≡ isCommitted w m
@@ -163,7 +164,7 @@ module _ (w : List ℕ) (n : ℕ) where
     unfolding actions
     abort-counts-itself h l =
         count-some (isAbortedBy w n) _
-        (any-at (isAbortedBy w n) 1 (started w) n (omega arith) (and-both l (atOrBelow-itself w (s .few) (s .below) n h)))
+        (any-at (isAbortedBy w n) 1 (started w) n (omega arith) (and-both l (atOrBelow-itself w n (λ z. omega arith) (sound-climbs s n (h .1)))))
 
     reached-became-aborted : (m : ℕ) → IsStarted w m → isAbortedBy w n m ≡ becameAborted w (abortTable w n) m
     reached-became-aborted m h = rw (abort-state m h) (reached (isLive w m) (isAtOrBelow w n m) refl)

@@ -7,7 +7,7 @@ use mathlib.Core.Path.{sym, _∙_}
 use borrow.Author.Needs.{needs}
 use borrow.Fn.Kinds.{In}
 use borrow.Fn.PlainCycle.{Measures, is, falls, and}
-use Rattle.rules.proofs.Laws.Walking.{nearest-store, nearest-step}
+use Rattle.rules.proofs.Laws.Walking.{sound-climbs, nearest-store, nearest-step}
 use Rattle.ancestry.proofs.walk.nearest.Reads as nearest
 use Rattle.ancestry.proofs.walk.nearest.Kinds as nearest-kinds
 use Rattle.ancestry.proofs.walk.+nearest.Lts-nearest as nearest-lts
@@ -40,7 +40,7 @@ returns-2 : (t : ℕ) → nearest-lts.Need-returns-2 (calls t) (nearest-at t) ne
 returns-2 t c =
     let start = c .before .before .before .before in
     rw (
-      nearest-step _ (start .pre .1 .sound) (start .args .n) (start .args .k) (omega arith),
+      nearest-step _ (start .args .n) (start .args .k) (λ z. omega arith) (sound-climbs (start .pre .1 .sound) (start .args .n) (omega arith)),
       sym (c .before .has-written .ensures) ∙ c .if2 .taken,
     )
 
@@ -57,7 +57,7 @@ returns-3 : (t : ℕ) → nearest-lts.Need-returns-3 (calls t) (nearest-at t) ne
 returns-3 t c =
     let start = c .before .before .before .before .before .before in
     rw (
-      nearest-step _ (start .pre .1 .sound) (start .args .n) (start .args .k) (omega arith),
+      nearest-step _ (start .args .n) (start .args .k) (λ z. omega arith) (sound-climbs (start .pre .1 .sound) (start .args .n) (omega arith)),
       sym (c .before .before .before .has-written .ensures) ∙ c .before .before .if2 .left,
       ← c .before .parent .ensures,
     )

@@ -7,7 +7,7 @@ use borrow.Author.Needs.{needs}
 use borrow.Author.Tests.{eq-eqb, ne-eqb}
 use Rattle.rules.specs.Table.{started}
 use Rattle.rules.specs.Walk.{isAtOrBelow}
-use Rattle.rules.proofs.Laws.Walking.{atOrBelow-store, atOrBelow-step}
+use Rattle.rules.proofs.Laws.Walking.{started-climbs, atOrBelow-store, atOrBelow-step}
 use Rattle.ancestry.proofs.walk.is_at_or_below.Statement.{statement}
 use Rattle.ancestry.proofs.walk.is_at_or_below.Tie as tie
 
@@ -26,7 +26,8 @@ returns c =
     let loop = c .before .before .loop in
     rw (
       loop .inv .1,
-      atOrBelow-step _ (start .pre .0 .few) (start .pre .0 .below) (start .args .a) (loop .at) (omega arith),
+      atOrBelow-step _ (start .args .a) (loop .at) (λ z. omega arith)
+      (started-climbs _ (start .pre .0 .few) (start .pre .0 .below) (loop .at) (omega arith)),
       eq-eqb _ _ (c .if1 .taken),
     )
 
@@ -47,7 +48,8 @@ loop-again c =
       omega arith,
       rw (
         loop .inv .1,
-        atOrBelow-step _ (start .pre .0 .few) (start .pre .0 .below) (start .args .a) (loop .at) (omega arith),
+        atOrBelow-step _ (start .args .a) (loop .at) (λ z. omega arith)
+      (started-climbs _ (start .pre .0 .few) (start .pre .0 .below) (loop .at) (omega arith)),
         ne-eqb _ _ (c .before .if1 .left),
         ← c .parent .ensures,
       ),
