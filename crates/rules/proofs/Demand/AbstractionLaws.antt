@@ -17,7 +17,7 @@ use Rattle.rules.specs.Nearest.{nearest}
 use Rattle.rules.specs.Ledger.{Ledger}
 use Rattle.rules.specs.Serial.Effect.{over}
 use Rattle.rules.proofs.Laws.Tests.{and-left, and-right, and-both}
-use Rattle.rules.proofs.Laws.Walking.{depth, depth-step, sound-climbs, nearest-store, nearest-step}
+use Rattle.rules.proofs.Laws.Walking.{parent-known, depth, depth-step, sound-climbs, nearest-store, nearest-step}
 use Rattle.rules.proofs.Serial.Values.{over-none}
 use Rattle.rules.proofs.Serial.AbstractState.{Tree}
 use Rattle.rules.proofs.Demand.Abstraction.{isAlive, cardOf, effectOf, viewOf, hasReadAccount, abstraction}
@@ -119,7 +119,7 @@ over-chosen true own card = refl
 over-chosen false own card = refl
 
 module _ (s : Ledger) (proper : Proper s) where
-  -- A live action's parent is the store or live, and it is below, so it has started. The store is told by its number alone:
+  -- A live action's parent is the store or live, and so it has started. The store is told by its number alone:
   -- row 0 is the table's head, and what stands there in a state's place may be anything.
   parent-alive :
       (X : ℕ) → isAlive (s .table) X ≡ true →
@@ -137,7 +137,7 @@ module _ (s : Ledger) (proper : Proper s) where
           (parent ≡ 0) ⊎ (isAlive (s .table) parent ≡ true)
       cases (yes store) held = inl store
       cases (no action) (inl store) = inl store
-      cases (no action) (inr live) = inr (live-alive (s .table) parent (omega (arith, begun, proper .sound .below X begun)) live)
+      cases (no action) (inr live) = inr (live-alive (s .table) parent (omega arith, parent-known (proper .sound) X begun) live)
 
   -- RULES 3.1, one step up
   view-step :

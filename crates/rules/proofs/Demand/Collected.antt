@@ -31,7 +31,7 @@ use Rattle.rules.proofs.Sound.Starting.{start-started, start-parent, st
 use Rattle.rules.proofs.Demand.AbstractionLaws.{Proper}
 use Rattle.rules.proofs.Sound.Reading.{read-change}
 use Rattle.rules.proofs.Sound.Writing.{write-change}
-use Rattle.rules.proofs.Sound.Judging.{Committable, commit-change}
+use Rattle.rules.proofs.Sound.Judging.{Committable, not-own-parent, commit-change}
 use Rattle.rules.proofs.Demand.Starts.{start-starts, start-old}
 use Rattle.rules.proofs.Demand.Reads.{lookedIn, read-reads, read-shows, read-old}
 use Rattle.rules.proofs.Demand.Writes.{abstract-write, stale-after-write}
@@ -193,9 +193,6 @@ module _ (got opening : ℕ → List ℕ) {s : Ledger} {c : Known} (kept : Kept 
     unfolding rest
     rest-kept m ne = put-elsewhere (c .block) n empty m ne
 
-    parent-other : p ≢ n
-    parent-other e = omega (arith, kept .proper .sound .below n (j .own))
-
     store-other : 0 ≢ n
     store-other e = omega (arith, j .own)
 
@@ -204,7 +201,7 @@ module _ (got opening : ℕ → List ℕ) {s : Ledger} {c : Known} (kept : Kept 
     laid-put =
         rw laid-blocks
         (record {
-          new = put-there rest p _ ∙ ap (λ b. child b i n (c .block n)) (rest-kept p parent-other);
+          new = put-there rest p _ ∙ ap (λ b. child b i n (c .block n)) (rest-kept p (not-own-parent j));
           store-kept = λ ne. put-elsewhere rest p _ 0 (λ z. ne (sym z)) ∙ rest-kept 0 store-other;
           live-kept = λ X l ne.
               put-elsewhere rest p _ X ne ∙ rest-kept X (still-alive-other (kept .proper) j refl X l);

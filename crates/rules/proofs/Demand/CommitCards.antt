@@ -24,7 +24,7 @@ use Rattle.rules.proofs.Demand.Abstraction.{cardOf, effectOf}
 use Rattle.rules.proofs.Demand.AbstractionLaws.{Proper, effect-written, effect-unwritten, effect-no-account, by-account}
 use Rattle.rules.proofs.Laws.Bytes.{cardAt-beyond}
 use Rattle.rules.proofs.Demand.Views.{effect-kept, shadow-fits}
-use Rattle.rules.proofs.Demand.CommitTable.{number-few, parent-below}
+use Rattle.rules.proofs.Demand.CommitTable.{number-few, parent-few}
 
 -- an account is in action n's write set or it isn't, or k is no account
 pub by-write-set :
@@ -38,9 +38,7 @@ module _ {s : Ledger} (proper : Proper s) {n p : ℕ} (judged : Committable (s .
   own-line = shadow-line (s .shadow) n (proper .shadowFits) (number-few proper judged under)
 
   parent-line : Line (shadowPlace p) (s .shadow)
-  parent-line =
-      shadow-line (s .shadow) p (proper .shadowFits)
-      (omega (arith, number-few proper judged under, parent-below proper judged under))
+  parent-line = shadow-line (s .shadow) p (proper .shadowFits) (parent-few proper judged under)
 
   store-line : Line basePlace (s .base)
   store-line = base-line (s .base) (proper .baseFits)
@@ -128,9 +126,8 @@ module _ {s : Ledger} (proper : Proper s) {n p : ℕ} (judged : Committable (s .
       p ≢ 0 → (k : ℕ) → k < accountCount →
       writeEntry (commitTable (s .table) n p) p k ≡ cond (hasWritten (s .table) n k) entered (writeEntry (s .table) p k)
   parent-entry sub =
-      let few = number-few proper judged under in
-      commit-write (s .table) n p (judged .own .0) (proper .sound .long) few
-      (omega arith) (omega (arith, parent-below proper judged under))
+      commit-write (s .table) n p (judged .own .0) (proper .sound .long) (number-few proper judged under)
+      (omega arith) (parent-few proper judged under)
 
   pub commit-effect-laid : (k : ℕ) → p ≢ 0 → effectOf (committedUnder s n p) p k ≡ lay (effectOf s n k) (effectOf s p k)
   unfolding committedUnder lay

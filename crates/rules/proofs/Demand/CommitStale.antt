@@ -26,7 +26,7 @@ use Rattle.rules.proofs.Serial.Stale.{AtCommit}
 use Rattle.rules.proofs.Demand.Abstraction.{effectOf, abstraction, Stale}
 use Rattle.rules.proofs.Demand.AbstractionLaws.{Proper, alive-started, alive-live, read-account, read-entered, effect-unwritten, effect-no-account}
 use Rattle.rules.proofs.Demand.Views.{RowKept, stale-stays}
-use Rattle.rules.proofs.Demand.CommitTable.{NoLater, table-change, number-few, parent-below, now-committed, read-joined, read-kept}
+use Rattle.rules.proofs.Demand.CommitTable.{NoLater, table-change, number-few, parent-other, now-committed, read-joined, read-kept}
 use Rattle.rules.proofs.Demand.CommitCards.{by-write-set}
 
 module _ {s : Ledger} (proper : Proper s) {n p : ℕ} (judged : Committable (s .table) n) (under : parentOf (s .table) n ≡ p) where
@@ -70,8 +70,7 @@ module _ {s : Ledger} (proper : Proper s) {n p : ℕ} (judged : Committable (s .
 
     own-set-kept : (g : ℕ) → readFields ≤ g → g < width → word table′ n g ≡ word (s .table) n g
     own-set-kept =
-        let below = parent-below proper judged under in
-        commit-keeps-sets (s .table) n p (judged .own .0) (λ e. omega arith)
+        commit-keeps-sets (s .table) n p (judged .own .0) (λ e. parent-other proper judged under (sym e))
 
     now-record : isRecordOf table′ p n ≡ true
     unfolding isRecordOf

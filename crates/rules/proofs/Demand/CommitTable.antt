@@ -14,9 +14,10 @@ use Rattle.rules.specs.Table.{mostActions, parentOf, readField, readEntr
 use Rattle.rules.specs.Ledger.{Ledger}
 use Rattle.rules.specs.Step.{joinedRead, commitTable}
 use Rattle.rules.proofs.Laws.Tests.{not-holds, nonzero, cond-holds}
+use Rattle.rules.proofs.Laws.Walking.{parent-known}
 use Rattle.rules.proofs.Sound.TableChanges.{TableChange, live-uncommitted}
 use Rattle.rules.proofs.Sound.Committing.{commit-keeps-row, commit-state, commit-read}
-use Rattle.rules.proofs.Sound.Judging.{Committable, commit-change}
+use Rattle.rules.proofs.Sound.Judging.{Committable, not-own-parent, commit-change}
 use Rattle.rules.proofs.Demand.Abstraction.{isAlive, hasReadAccount}
 use Rattle.rules.proofs.Demand.AbstractionLaws.{Proper, alive-started, alive-live, read-account, read-entered}
 
@@ -58,8 +59,11 @@ module _ {s : Ledger} (proper : Proper s) {n p : ℕ} (judged : Committable (s .
   pub number-few : n ≤ mostActions
   number-few = omega (arith, judged .own, proper .sound .few)
 
-  pub parent-below : p < n
-  parent-below = rw under at (proper .sound .below n (judged .own))
+  pub parent-few : p ≤ mostActions
+  parent-few = omega (arith, rw under at (parent-known (proper .sound) n (judged .own)), proper .sound .few)
+
+  pub parent-other : p ≢ n
+  parent-other = rw under at (not-own-parent judged)
 
   pub now-committed : isCommitted (commitTable (s .table) n p) n ≡ true
   now-committed = eq-eqb _ _ (commit-state (s .table) n p (judged .own .0) (proper .sound .long) number-few)
@@ -73,7 +77,7 @@ module _ {s : Ledger} (proper : Proper s) {n p : ℕ} (judged : Committable (s .
         readEntry (commitTable (s .table) n p) p k ≡ joinedRead (readEntry (s .table) n k) (readEntry (s .table) p k)
     parent-entry action =
         commit-read (s .table) n p (judged .own .0) (proper .sound .long) number-few
-        action (omega (arith, number-few, parent-below)) k
+        action parent-few k
 
     -- a parent that is an action has the reads of the one that commits, at times no later
     pub read-joined :

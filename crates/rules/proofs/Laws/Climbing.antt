@@ -14,11 +14,6 @@ climbs parent zero n = eqb n 0
 climbs parent (suc moves) n = eqb n 0 || climbs parent moves (parent n)
 
 module _ (parent : ℕ → ℕ) where
-  pub climbs-store : (moves : ℕ) → climbs parent moves 0 ≡ true
-  unfolding climbs
-  climbs-store zero = refl
-  climbs-store (suc moves) = refl
-
   pub climbs-nowhere : (n : ℕ) → climbs parent zero n ≡ true → n ≡ 0
   unfolding climbs
   climbs-nowhere n up = eqb-true n 0 up

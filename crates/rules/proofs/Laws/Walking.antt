@@ -90,6 +90,10 @@ Climbs w n = climbs (parentOf w) mostActions n ≡ true
 abbrev pub Falls : List ℕ → Type 0
 Falls w = (m : ℕ) → IsStarted w m → parentOf w m < m
 
+-- a parent is the store or a started action
+pub parent-known : {w : List ℕ} → Sound w → (n : ℕ) → IsStarted w n → parentOf w n ≤ started w
+parent-known s n h = omega (arith, s .below n h)
+
 pub started-climbs : (w : List ℕ) → started w ≤ mostActions → Falls w → (n : ℕ) → n ≤ started w → Climbs w n
 started-climbs w few falls n known = falling-climbs (parentOf w) (started w) falls mostActions n known (omega arith)
 
@@ -132,7 +136,7 @@ nearest-started w s n k known =
     walk-holds _ _ _ (λ m near. m ≤ started w → near ≤ started w)
     (λ h. h)
     (λ m ne near above h.
-    cond-holds (λ x. x ≤ started w) (hasWritten w m k) (λ e. h) (λ e. above (omega (arith, s .below m (omega arith)))))
+    cond-holds (λ x. x ≤ started w) (hasWritten w m k) (λ e. h) (λ e. above (parent-known s m (omega arith))))
     mostActions n (sound-climbs s n known) known
 
 -- ---- at or below an action

@@ -22,7 +22,7 @@ use Rattle.rules.proofs.Laws.Tests.{and-left, and-right, and-both, not-
 use Rattle.rules.proofs.Laws.Ranges.{count-some, any-at, count-agree, fold-keeps, fold-puts}
 use Rattle.rules.proofs.Laws.Words.{withWord-length, word-same, word-other-row, word-off-field}
 use Rattle.rules.proofs.Sound.TableChanges.{TableChange, writes-agree}
-use Rattle.rules.proofs.Laws.Walking.{sound-climbs, atOrBelow-itself, notBelow-parent}
+use Rattle.rules.proofs.Laws.Walking.{parent-known, sound-climbs, atOrBelow-itself, notBelow-parent}
 
 -- ---- the table after an abort of n
 
@@ -114,8 +114,7 @@ module _ (w : List ℕ) (n : ℕ) where
         isLive (abortTable w n) (parentOf w m) ≡ true
     parent-left m h l p one =
         let out = not-true (isAtOrBelow w n m) (and-right (isLive w m) _ (sym (abort-live m h) ∙ l)) in
-        let below = s .below m h in
-        rw (abort-live (parentOf w m) (omega arith)) 
+        rw (abort-live (parentOf w m) (one, parent-known s m h))
         (and-both p (ap not (notBelow-parent w n m (λ z. omega arith) (sound-climbs s m (h .1)) out)))
 
     -- what becomes aborted was live, not committed

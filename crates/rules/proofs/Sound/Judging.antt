@@ -17,6 +17,7 @@ use Rattle.rules.specs.Step.{commitTime, commitCounter, joinedRead, comm
 use Rattle.rules.proofs.Laws.Tests.{and-left, and-right, and-both, not-both, test, false-of-not-true}
 use Rattle.rules.proofs.Laws.Ranges.{not-any-at, count-agree, count-one-more}
 use Rattle.rules.proofs.Laws.Words.{withWord-length, word-same, word-other-row, word-off-field}
+use Rattle.rules.proofs.Laws.Walking.{parent-known}
 use Rattle.rules.proofs.Sound.TableChanges.{TableChange, Ended, writes-agree, live-uncommitted}
 use Rattle.rules.proofs.Sound.Committing.{commit-length, commit-started, commit-parent, commit-keeps-row, commit-keeps-sets, commit-counter, commit-state, commit-end, commit-read}
 
@@ -30,6 +31,10 @@ pub no-live-child : (w : List ℕ) (n : ℕ) → hasLiveChild w n ≡ false → 
 unfolding hasLiveChild actions
 no-live-child w n none m h l e =
     not-both (and-both (eq-eqb _ _ e) l) (not-any-at (isLiveChildOf w n) 1 (started w) m none (omega arith))
+
+-- so it is not its own parent
+pub not-own-parent : {w : List ℕ} {n : ℕ} → Committable w n → parentOf w n ≢ n
+not-own-parent {w} {n} j = no-live-child w n (j .childless) n (j .own) (j .alive)
 
 -- ---- one action finishes: what its state alone gives of a change
 
@@ -146,8 +151,8 @@ module _ (w : List ℕ) (s : Sound w) (n : ℕ) (j : Committable w n) where
   n-few : n ≤ mostActions
   n-few = omega (arith, j .own, s .few)
 
-  parent-below : parent < n
-  parent-below = s .below n (j .own)
+  parent-started : parent ≤ started w
+  parent-started = parent-known s n (j .own)
 
   -- a parent that is an action is a live one
   parent-live : 1 ≤ parent → isLive w parent ≡ true
@@ -187,7 +192,7 @@ module _ (w : List ℕ) (s : Sound w) (n : ℕ) (j : Committable w n) where
 
       wrote : hasWrites w n ≡ true
       wrote =
-          sym (writes-agree w passed n (λ k hk. commit-keeps-sets w n parent (j .own .0) (λ z. omega (arith, parent-below)) (writeField k) (omega arith) (omega arith)))
+          sym (writes-agree w passed n (λ k hk. commit-keeps-sets w n parent (j .own .0) (λ z. not-own-parent j (sym z)) (writeField k) (omega arith) (omega arith)))
           ∙ and-right (isCommitted passed n) (hasWrites passed n) e
 
   -- another action that has an end keeps its row: it is committed, and the parent is live
@@ -226,10 +231,10 @@ module _ (w : List ℕ) (s : Sound w) (n : ℕ) (j : Committable w n) where
       go : Dec (m ≡ parent) → readTime passed m k ≤ counter passed
       go (yes z) =
           let pos : 1 ≤ parent = rw z at (h .0) in
-          rw (z, commit-read w n parent (j .own .0) (s .long) n-few pos (omega (arith, parent-below, n-few)) k hk)
+          rw (z, commit-read w n parent (j .own .0) (s .long) n-few pos (omega (arith, parent-started, s .few)) k hk)
           (joined-bound (readEntry w n k) (readEntry w parent k) (counter passed)
           (old-time n k (j .own) (j .alive) hk)
-          (old-time parent k (pos, omega (arith, parent-below, j .own)) (parent-live pos) hk))
+          (old-time parent k (pos, parent-started) (parent-live pos) hk))
       go (no ne) =
           let entry : readEntry passed m k ≡ readEntry w m k =
           commit-keeps-row w n parent (j .own .0) m (readField k) (omega arith) (h .0) other (inl ne) in

@@ -15,6 +15,7 @@ use Rattle.rules.specs.Card.{accountCount}
 use Rattle.rules.specs.Table.{hasEnd, width, tableLength, mostActions, live, committed, word, startedField, started, withStarted, counterField, counter, parentField, parentOf, withParent, stateField, stateOf, withState, endField, endTime, withEndTime, readField, readEntry, writeField, writeEntry, hasRead, readTime, isLive, isCommitted, actions}
 use Rattle.rules.specs.Sound.{IsStarted, Sound}
 use Rattle.rules.specs.Step.{startTable}
+use Rattle.rules.proofs.Laws.Walking.{parent-known}
 use Rattle.rules.proofs.Laws.Tests.{and-left, not-both}
 use Rattle.rules.proofs.Laws.Ranges.{count-agree, count-snoc}
 use Rattle.rules.proofs.Laws.Words.{withWord-length, word-same, word-other-row, word-other-field}
@@ -183,7 +184,7 @@ module _ (w : List ℕ) (p : ℕ) (s : Sound w) (room : started w < mostActions)
             by-age _
             (λ m h l.
             rw (old-row m parentField h (omega arith))
-            (parent-alive (parentOf w m) (omega (arith, s .below m h)) (s .alive m h (rw (old-row m stateField h (omega arith)) at l))))
+            (parent-alive (parentOf w m) (parent-known s m h) (s .alive m h (rw (old-row m stateField h (omega arith)) at l))))
             (λ l. rw (start-parent w p (s .long) room) (parent-alive p known (store-or-live (ℕ-discrete p 0))));
         reads =
             λ m k h. by-age (λ x. isLive (startTable w p) x ≡ true → k < accountCount → hasRead (startTable w p) x k ≡ true → readTime (startTable w p) x k ≤ counter (startTable w p))

@@ -24,6 +24,7 @@ use Rattle.rules.specs.Touch.{isInCard, isPut, isCopied, isClear, isComm
 use Rattle.rules.proofs.Laws.Tests.{not-holds, and-fails, or-fails, and-left, and-both, or-inr, test, cond-holds}
 use Rattle.rules.proofs.Laws.Ranges.{not-any-at}
 use Rattle.rules.proofs.Laws.Sets.{account-within}
+use Rattle.rules.proofs.Laws.Walking.{parent-known}
 use Rattle.rules.proofs.Sound.Soundness.{facts}
 use Rattle.rules.proofs.Laws.Cards.{Fits, Outside, withCard-length, withCard-outside}
 use Rattle.rules.proofs.Laws.EventCases.{causeIn, AllowedIn, step-by-cause, act-by-kind, commit-no-start}
@@ -141,12 +142,13 @@ module _ (s : Ledger) (e : Event) (a : AllowedIn s e) where
   store-line : Line basePlace (s .base)
   store-line = base-line (s .base) (a .baseFits)
 
-  -- a parent is below its child, so that its cards have a place too
+  -- a parent has started, so that its cards have a place too
   parent-line : isCommitting (s .table) e ≡ true → Line (shadowPlace (parentIn s e)) (s .shadow)
   parent-line committing =
       let no-start = commit-no-start e (and-left (isCommit e) _ committing) in
-      let below = facts (s .table) (a .soundTest) .below (e .number) (a .named no-start, a .numberKnown) in
-      shadow-line (s .shadow) (parentIn s e) (a .shadowFits) (omega (arith, number-few))
+      let sound = facts (s .table) (a .soundTest) in
+      let known = parent-known sound (e .number) (a .named no-start, a .numberKnown) in
+      shadow-line (s .shadow) (parentIn s e) (a .shadowFits) (omega (arith, sound .few))
 
   written-fits : isWrite e ≡ true → Fits (s .shadow) (shadowPlace (e .number) (e .account))
   written-fits writes = line-fits own-line (e .account) (a .accountKnown (or-inr (isRead e) writes))
