@@ -7,10 +7,12 @@ pub mod Starts
 pub mod Reads
 pub mod Writes
 pub mod Drops
-pub mod Passes
 pub mod CommitTable
 pub mod CommitCards
 pub mod CommitChange
 pub mod CommitStale
+pub mod Passes
+pub mod JudgingRule
+pub mod Backward
 pub mod Collected
 pub mod Theorem

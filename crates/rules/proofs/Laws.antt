@@ -11,5 +11,6 @@ pub mod CopiedPart
 pub mod AnswerWords
 pub mod Allowed
 pub mod EventCases
+pub mod Permitted
 pub mod Climbing
 pub mod Walking

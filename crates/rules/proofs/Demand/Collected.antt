@@ -1,65 +1,61 @@
--- The collector beside the engine: event by event, what demand 3's proof keeps of both. Assumes nothing.
-use Prim.Native.Nat.{ℕ, _+_, _≤_, _<_}
+-- The collector beside the engine: event by event, what demand 3's proof keeps of both, whatever the judging rule.
+-- Assumes nothing.
+use Prim.Native.Nat.{ℕ, _+_}
 use native.Mathlib.Omega.{arith}
 use native.Mathlib.Decide.{ℕ-discrete}
 use mathlib.Core.Path.{_≡_, refl, sym, ap, _∙_}
 use mathlib.Core.Logic.{_≢_}
-use mathlib.Core.Bool.{true, false}
 use mathlib.Core.Option.{some}
 use mathlib.Core.List.{List}
-use lib.ListN.{length}
-use Rattle.rules.specs.Card.{accountCount, cardLength}
-use Rattle.rules.specs.Table.{mostActions, started, parentField, parentOf, hasLiveChild, isLive}
+use Rattle.rules.specs.Card.{IsCard}
+use Rattle.rules.specs.Table.{started, parentOf}
 use Rattle.rules.specs.Sound.{IsStarted}
-use Rattle.rules.specs.declared.Found.the-variants.{Nothing}
-use Rattle.rules.specs.Clash.{firstClash}
 use Rattle.rules.specs.Ledger.{Ledger}
-use Rattle.rules.specs.Step.{startTable, start, read, write, committedUnder}
+use Rattle.rules.specs.Step.{start, read, write, committedUnder}
 use Rattle.rules.specs.Serial.Effect.{Effect}
 use Rattle.rules.specs.Serial.Block.{Block, empty, child}
 use Rattle.rules.specs.Serial.Collect.{put, Known, begun, laid}
+use Rattle.rules.proofs.Laws.Permitted.{Startable, Touchable, Committable, not-own-parent}
 use Rattle.rules.proofs.Laws.Puts.{put-there, put-elsewhere, put-holds}
+use Rattle.rules.proofs.Serial.Values.{cards}
+use Rattle.rules.proofs.Serial.AbstractState.{AbstractState, Live}
+use Rattle.rules.proofs.Serial.Change.{Stays}
+use Rattle.rules.proofs.Serial.Events.{NobodyNew, Drop}
 use Rattle.rules.proofs.Serial.Invariant.{Put}
-use Rattle.rules.proofs.Serial.Rule.{Rule, Holds, rule-start, rule-read, rule-write, rule-commit, rule-drop}
-use Rattle.rules.proofs.Serial.Stale.{Old, stale-rule}
+use Rattle.rules.proofs.Serial.Rule.{Holds, rule-start, rule-read, rule-write, rule-commit, rule-drop}
 use Rattle.rules.proofs.Serial.Settling.{whole-card}
 use Rattle.rules.proofs.Serial.Running.{Whole, OnlyChildren}
-use Rattle.rules.proofs.Demand.Abstraction.{abstraction, Stale}
-use Rattle.rules.proofs.Serial.Events.{Drop}
-use Rattle.rules.proofs.Sound.TableChanges.{TableChange}
-use Rattle.rules.proofs.Sound.Starting.{start-started, start-parent, start-keeps-row}
-use Rattle.rules.proofs.Demand.AbstractionLaws.{Proper}
-use Rattle.rules.proofs.Sound.Reading.{read-change}
-use Rattle.rules.proofs.Sound.Writing.{write-change}
-use Rattle.rules.proofs.Sound.Judging.{Committable, not-own-parent, commit-change}
-use Rattle.rules.proofs.Demand.Starts.{start-starts, start-old}
-use Rattle.rules.proofs.Demand.Reads.{lookedIn, read-reads, read-shows, read-old}
-use Rattle.rules.proofs.Demand.Writes.{abstract-write, stale-after-write}
-use Rattle.rules.proofs.Demand.Passes.{no-clash-passes}
+use Rattle.rules.proofs.Sound.Starting.{start-parent}
+use Rattle.rules.proofs.Demand.Abstraction.{abstraction}
+use Rattle.rules.proofs.Demand.AbstractionLaws.{Proper, live-alive}
+use Rattle.rules.proofs.Demand.Starts.{start-starts}
+use Rattle.rules.proofs.Demand.Reads.{lookedIn, read-reads, read-shows}
+use Rattle.rules.proofs.Demand.Writes.{abstract-write}
 use Rattle.rules.proofs.Demand.CommitTable.{still-alive-other}
 use Rattle.rules.proofs.Demand.CommitChange.{abstract-commit}
-use Rattle.rules.proofs.Demand.CommitStale.{stale-at-commit}
+use Rattle.rules.proofs.Demand.JudgingRule.{JudgingRule}
 
 -- ---- what is kept
 
-abbrev rule : Rule abstraction
-rule = stale-rule abstraction Stale
+-- of the live actions the collector knows the parents
+abbrev KnowsParents : AbstractState cards → (ℕ → ℕ) → Type 0
+KnowsParents s parent = (X : ℕ) → Live s X → parent X ≡ s .parent X
 
 -- got: the card that the read at each place was given; opening: the cards of the opening base store
-pub record Kept (got opening : ℕ → List ℕ) (s : Ledger) (c : Known) : Type 0 where
+pub record Kept (J : JudgingRule) (got opening : ℕ → List ℕ) (s : Ledger) (c : Known) : Type 0 where
   pub proper : Proper s
-  pub holds : Holds rule got opening s (c .block)
-  pub parents : (n : ℕ) → IsStarted (s .table) n → c .parent n ≡ parentOf (s .table) n
+  pub holds : Holds (J .rule) got opening s (c .block)
+  pub parents : KnowsParents (abstraction s) (c .parent)
   pub whole : (n : ℕ) → Whole (c .block n)
   pub top : OnlyChildren (c .block 0)
 
--- the parents that the collector knows are the table's, as long as the table keeps them
+-- a parent that is known stays so while nobody is new and live actions keep their parents
 same-parents :
-    {w v : List ℕ} {now : ℕ} (parent : ℕ → ℕ) → TableChange w v now → ((n : ℕ) → IsStarted w n → parent n ≡ parentOf w n) →
-    (n : ℕ) → IsStarted v n → parent n ≡ parentOf v n
-same-parents parent change agree n h =
-    let was : IsStarted _ n = (h .0, rw (change .sameStarted) at (h .1)) in
-    agree n was ∙ sym (change .parents n was)
+    {s s′ : AbstractState cards} {parent : ℕ → ℕ} → NobodyNew s s′ → ((X : ℕ) → Stays s s′ X → s′ .parent X ≡ s .parent X) →
+    KnowsParents s parent → KnowsParents s′ parent
+same-parents nobody-new kept known X l′ =
+    let l = nobody-new X l′ in
+    known X l ∙ sym (kept X (record { before = l; after = l′ }))
 
 -- what is known with the block of n grown to d
 abbrev grown : Known → ℕ → Block Effect → Known
@@ -67,23 +63,22 @@ grown c n d = record { parent = c .parent; block = put (c .block) n d }
 
 -- ---- event by event
 
--- got and opening as above, at place i, from a state and what is collected before it to the state after
-module _ (got opening : ℕ → List ℕ) {s : Ledger} {c : Known} (kept : Kept got opening s c) (i : ℕ) where
+-- J, got and opening as above, at place i, from a state and what is collected before it to the state after
+module _ (J : JudgingRule) (got opening : ℕ → List ℕ) {s : Ledger} {c : Known} (kept : Kept J got opening s c) (i : ℕ) where
   -- an abort or a failed commit: no block changes
   pub drop-kept :
-      {s′ : Ledger} {now : ℕ} → Proper s′ → TableChange (s .table) (s′ .table) now → Drop (abstraction s) (abstraction s′) →
-      Old (abstraction s) (abstraction s′) (Stale s) (Stale s′) → Kept got opening s′ c
-  drop-kept {s′} proper′ change drop old =
+      (s′ : Ledger) → Proper s′ → Drop (abstraction s) (abstraction s′) → J .rule .CalmFacts s s′ → Kept J got opening s′ c
+  drop-kept s′ proper′ drop facts =
       record {
         proper = proper′;
-        holds = rule-drop rule got opening s s′ (kept .holds) drop old;
-        parents = same-parents (c .parent) change (kept .parents);
+        holds = rule-drop (J .rule) got opening s s′ (kept .holds) drop facts;
+        parents = same-parents (drop .nobody-new) (drop .still .parent-kept) (kept .parents);
         whole = kept .whole;
         top = kept .top;
       }
 
   -- a start: the new action's block is empty
-  module _ (p : ℕ) (known : p ≤ started (s .table)) (alive : 1 ≤ p → isLive (s .table) p ≡ true) (room : started (s .table) < mostActions) where
+  module _ (p : ℕ) (permitted : Startable (s .table) p) where
     abbrev new : ℕ
     new = started (s .table) + 1
 
@@ -95,22 +90,24 @@ module _ (got opening : ℕ → List ℕ) {s : Ledger} {c : Known} (kept : Kept 
           live-kept = λ X _ ne. put-elsewhere (c .block) new empty X ne;
         }
 
-    new-parents : (n : ℕ) → IsStarted (startTable (s .table) p) n → put (c .parent) new p n ≡ parentOf (startTable (s .table) p) n
+    new-parents : KnowsParents (abstraction (start s p .after)) (put (c .parent) new p)
+    unfolding start
     new-parents =
-        put-holds (c .parent) new p (λ n q. IsStarted (startTable (s .table) p) n → q ≡ parentOf (startTable (s .table) p) n)
-        (λ _. sym (start-parent (s .table) p (kept .proper .sound .long) room))
-        (λ n ne h.
-        let was : IsStarted (s .table) n = omega (arith, start-started (s .table) p (kept .proper .sound .long) room) in
-        kept .parents n was ∙ sym (start-keeps-row (s .table) p n parentField (omega arith) (h .0) ne))
+        let starts = start-starts s (kept .proper) p permitted in
+        put-holds (c .parent) new p (λ X q. Live (abstraction (start s p .after)) X → q ≡ parentOf (start s p .after .table) X)
+        (λ _. sym (start-parent (s .table) p (kept .proper .sound .long) (permitted .room)))
+        (λ X ne l′.
+        let l = starts .nobody-else-new X l′ ne in
+        kept .parents X l ∙ sym (starts .still .parent-kept X (record { before = l; after = l′ })))
 
-    pub start-kept : Proper (start s p .after) → Kept got opening (start s p .after) (begun c new p)
+    pub start-kept : Proper (start s p .after) → Kept J got opening (start s p .after) (begun c new p)
     unfolding start Whole
     start-kept proper′ =
         record {
           proper = proper′;
           holds =
-              rule-start rule got opening s (start s p .after) (kept .holds) new
-              (start-starts s (kept .proper) p known alive room) (start-old s (kept .proper) p known alive room) new-put;
+              rule-start (J .rule) got opening s (start s p .after) (kept .holds) new
+              (start-starts s (kept .proper) p permitted) (J .at-start s (kept .proper) p permitted) new-put;
           parents = new-parents;
           whole = put-holds (c .block) new empty (λ _. Whole) tt (λ m _. kept .whole m);
           top = rw (put-elsewhere (c .block) new empty 0 (λ z. omega arith)) (kept .top);
@@ -132,41 +129,42 @@ module _ (got opening : ℕ → List ℕ) {s : Ledger} {c : Known} (kept : Kept 
     own-whole : Whole d → (m : ℕ) → Whole (put (c .block) n d m)
     own-whole whole = put-holds (c .block) n d (λ _. Whole) whole (λ m _. kept .whole m)
 
-  module _ (n k : ℕ) (own : IsStarted (s .table) n) (alive : isLive (s .table) n ≡ true) (account : k < accountCount)
-      (childless : hasLiveChild (s .table) n ≡ false) where
+  module _ (n k : ℕ) (permitted : Touchable (s .table) n k) where
     pub read-kept :
         Proper (read s n k .after) → lookedIn (read s n k .after) n k ≡ got i →
-        Kept got opening (read s n k .after) (grown c n (Block.read (c .block n) i k))
+        Kept J got opening (read s n k .after) (grown c n (Block.read (c .block n) i k))
     unfolding read Whole
     read-kept proper′ given =
+        let reads = read-reads s (kept .proper) n k permitted in
+        let own = permitted .own in
         record {
           proper = proper′;
           holds =
-              rule-read rule got opening s (read s n k .after) (kept .holds) n k i
-              (read-reads s (kept .proper) n k own alive account)
-              (read-shows s (kept .proper) n k own alive account childless ∙ given)
-              (read-old s (kept .proper) n k own alive account)
+              rule-read (J .rule) got opening s (read s n k .after) (kept .holds) n k i reads
+              (read-shows s (kept .proper) n k permitted ∙ given)
+              (J .at-read s (kept .proper) n k permitted)
               (own-put n own (Block.read (c .block n) i k) (read s n k .after));
-          parents = same-parents (c .parent) (read-change (s .table) n k account (kept .proper .sound)) (kept .parents);
+          parents = same-parents (reads .nobody-new) (reads .still .parent-kept) (kept .parents);
           whole = own-whole n own (Block.read (c .block n) i k) (kept .whole n);
           top = own-top n own (Block.read (c .block n) i k);
         }
 
-    module _ (card : List ℕ) (size : length card ≡ cardLength) where
+    module _ (card : List ℕ) (size : IsCard card) where
       pub write-kept :
           Proper (write s n k card .after) →
-          Kept got opening (write s n k card .after) (grown c n (Block.write (c .block n) i k (some card)))
+          Kept J got opening (write s n k card .after) (grown c n (Block.write (c .block n) i k (some card)))
       unfolding write Whole
       write-kept proper′ =
+          let writes = abstract-write s (kept .proper) n k permitted card size in
+          let own = permitted .own in
           record {
             proper = proper′;
             holds =
-                rule-write rule got opening s (write s n k card .after) (kept .holds) n k i (some card)
-                (abstract-write (kept .proper) card own alive account size childless)
-                (stale-after-write (kept .proper) card own alive account size)
+                rule-write (J .rule) got opening s (write s n k card .after) (kept .holds) n k i (some card) writes
+                (J .at-write s (kept .proper) n k permitted card size)
                 (own-put n own (Block.write (c .block n) i k (some card)) (write s n k card .after));
-            parents = same-parents (c .parent) (write-change (s .table) (kept .proper .sound) n k own alive account) (kept .parents);
-            whole = own-whole n own (Block.write (c .block n) i k (some card)) (kept .whole n, whole-card account size);
+            parents = same-parents (writes .nobody-new) (writes .change .parent-kept) (kept .parents);
+            whole = own-whole n own (Block.write (c .block n) i k (some card)) (kept .whole n, whole-card (permitted .account) size);
             top = own-top n own (Block.write (c .block n) i k (some card));
           }
 
@@ -182,7 +180,7 @@ module _ (got opening : ℕ → List ℕ) {s : Ledger} {c : Known} (kept : Kept 
     rest = put (c .block) n empty
 
     known-parent : c .parent n ≡ p
-    known-parent = kept .parents n (j .own)
+    known-parent = kept .parents n (live-alive (s .table) n (j .own) (j .alive))
 
     laid-blocks : laid i c n .block ≡ put rest p (child (rest p) i n (c .block n))
     unfolding rest
@@ -228,15 +226,16 @@ module _ (got opening : ℕ → List ℕ) {s : Ledger} {c : Known} (kept : Kept 
         cases (yes e) = rw (← e) (rw (put-there rest 0 (child (rest 0) i n (c .block n))) rest-top)
         cases (no ne) = rw (put-elsewhere rest p (child (rest p) i n (c .block n)) 0 ne) rest-top
 
-    pub pass-kept : Proper s′ → firstClash (s .table) n ≡ Nothing → Kept got opening s′ (laid i c n)
+    pub pass-kept : Proper s′ → J .rule .pass s n → Kept J got opening s′ (laid i c n)
     unfolding committedUnder
-    pass-kept proper′ clear =
+    pass-kept proper′ passed =
+        let commits = abstract-commit (kept .proper) j refl in
         record {
           proper = proper′;
           holds =
-              rule-commit rule got opening s s′ (kept .holds) n p i
-              (abstract-commit (kept .proper) j refl) (stale-at-commit (kept .proper) j refl) (no-clash-passes s n clear) laid-put;
-          parents = same-parents (c .parent) (commit-change (s .table) (kept .proper .sound) n j) (kept .parents);
+              rule-commit (J .rule) got opening s s′ (kept .holds) n p i commits
+              (J .at-commit s (kept .proper) n j) passed laid-put;
+          parents = same-parents (commits .nobody-new) (commits .change .parent-kept) (kept .parents);
           whole = laid-whole;
           top = laid-top;
         }

@@ -18,7 +18,7 @@ use Rattle.rules.specs.Step.{commitTable, committedUnder}
 use Rattle.rules.specs.Serial.Effect.{over, lay}
 use Rattle.rules.proofs.Laws.Tests.{test, cond-holds}
 use Rattle.rules.proofs.Sound.Committing.{commit-keeps-row, commit-write}
-use Rattle.rules.proofs.Sound.Judging.{Committable}
+use Rattle.rules.proofs.Laws.Permitted.{Committable}
 use Rattle.rules.proofs.Stores.Copies.{Line, base-line, shadow-line, copyCards-length, copyCards-card, copyCards-apart, shadow-apart}
 use Rattle.rules.proofs.Demand.Abstraction.{cardOf, effectOf}
 use Rattle.rules.proofs.Demand.AbstractionLaws.{Proper, effect-written, effect-unwritten, effect-no-account, by-account}

@@ -9,7 +9,7 @@ use Rattle.rules.specs.Table.{parentOf}
 use Rattle.rules.specs.Ledger.{Ledger}
 use Rattle.rules.specs.Step.{commitTable, committedUnder}
 use Rattle.rules.proofs.Sound.TableChanges.{change-keeps-sound}
-use Rattle.rules.proofs.Sound.Judging.{Committable}
+use Rattle.rules.proofs.Laws.Permitted.{Committable}
 use Rattle.rules.proofs.Serial.Change.{Change}
 use Rattle.rules.proofs.Serial.Events.{Commit}
 use Rattle.rules.proofs.Demand.Abstraction.{effectOf, abstraction}

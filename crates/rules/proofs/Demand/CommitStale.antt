@@ -19,13 +19,13 @@ use Rattle.rules.proofs.Laws.Ranges.{any-at}
 use Rattle.rules.proofs.Laws.Sets.{account-within}
 use Rattle.rules.proofs.Sound.TableChanges.{writes-agree, live-uncommitted}
 use Rattle.rules.proofs.Sound.Committing.{commit-parent, commit-keeps-row, commit-keeps-sets, commit-end}
-use Rattle.rules.proofs.Sound.Judging.{Committable}
+use Rattle.rules.proofs.Laws.Permitted.{Committable}
 use Rattle.rules.proofs.Serial.AbstractState.{HasRead}
 use Rattle.rules.proofs.Serial.Change.{Stays}
 use Rattle.rules.proofs.Serial.Stale.{AtCommit}
 use Rattle.rules.proofs.Demand.Abstraction.{effectOf, abstraction, Stale}
 use Rattle.rules.proofs.Demand.AbstractionLaws.{Proper, alive-started, alive-live, read-account, read-entered, effect-unwritten, effect-no-account}
-use Rattle.rules.proofs.Demand.Views.{RowKept, stale-stays}
+use Rattle.rules.proofs.Demand.Views.{RowKept, RecordsKept, stale-stays}
 use Rattle.rules.proofs.Demand.CommitTable.{NoLater, table-change, number-few, parent-other, now-committed, read-joined, read-kept}
 use Rattle.rules.proofs.Demand.CommitCards.{by-write-set}
 
@@ -54,12 +54,15 @@ module _ {s : Ledger} (proper : Proper s) {n p : ℕ} (judged : Committable (s .
           (λ l. live-uncommitted (s .table) p (rw under at l) (rw e at done))
           (proper .sound .alive n (judged .own) (judged .alive))
 
+  records-kept : RecordsKept (s .table) table′
+  records-kept = record { noFewer = le-of-eq (sym (table-change proper judged under .sameStarted)); rows = committed-row-kept }
+
   stale-kept :
       {X Y Q k : ℕ} → k < accountCount → NoLater (readEntry table′ Y k) (readEntry (s .table) X k) →
       Stale s X Q k → Stale after Y Q k
   unfolding committedUnder
   stale-kept account no-later =
-      stale-stays s after account (le-of-eq (sym (table-change proper judged under .sameStarted))) committed-row-kept (omega arith)
+      stale-stays s after account records-kept (omega arith)
 
   -- ---- a read that is stale now: n is a record of p then, with an end time above every read of a live action
 

@@ -14,10 +14,11 @@ use Rattle.rules.specs.Table.{mostActions, parentOf, readField, readEntr
 use Rattle.rules.specs.Ledger.{Ledger}
 use Rattle.rules.specs.Step.{joinedRead, commitTable}
 use Rattle.rules.proofs.Laws.Tests.{not-holds, nonzero, cond-holds}
+use Rattle.rules.proofs.Laws.Permitted.{Committable, not-own-parent}
 use Rattle.rules.proofs.Laws.Walking.{parent-known}
 use Rattle.rules.proofs.Sound.TableChanges.{TableChange, live-uncommitted}
 use Rattle.rules.proofs.Sound.Committing.{commit-keeps-row, commit-state, commit-read}
-use Rattle.rules.proofs.Sound.Judging.{Committable, not-own-parent, commit-change}
+use Rattle.rules.proofs.Sound.Judging.{commit-change}
 use Rattle.rules.proofs.Demand.Abstraction.{isAlive, hasReadAccount}
 use Rattle.rules.proofs.Demand.AbstractionLaws.{Proper, alive-started, alive-live, read-account, read-entered}
 

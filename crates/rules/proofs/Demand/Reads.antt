@@ -11,7 +11,7 @@ use mathlib.Core.List.{List, []}
 use lib.Dec.{eqb}
 use borrow.Author.Tests.{ne-eqb}
 use Rattle.rules.specs.Card.{accountCount, cardAt}
-use Rattle.rules.specs.Table.{counter, started, stateField, stateOf, readField, readEntry, hasRead, writeField, isLive, isLiveChildOf, hasLiveChild, actions}
+use Rattle.rules.specs.Table.{counter, started, stateField, stateOf, readField, readEntry, hasRead, writeField, isLiveChildOf, hasLiveChild, actions}
 use Rattle.rules.specs.Sound.{IsStarted}
 use Rattle.rules.specs.Event.{readBy}
 use Rattle.rules.specs.Nearest.{nearest}
@@ -21,6 +21,7 @@ use Rattle.rules.specs.Step.{readTable, read}
 use Rattle.rules.proofs.Laws.Tests.{test, cond-holds}
 use Rattle.rules.proofs.Laws.Ranges.{any-agree}
 use Rattle.rules.proofs.Laws.Allowed.{allowed-none}
+use Rattle.rules.proofs.Laws.Permitted.{Touchable}
 use Rattle.rules.proofs.Sound.Soundness.{tested}
 use Rattle.rules.proofs.Sound.TableChanges.{TableChange, live-uncommitted}
 use Rattle.rules.proofs.Sound.Reading.{read-keeps-field, read-keeps-row, read-entry, read-change}
@@ -28,8 +29,8 @@ use Rattle.rules.proofs.Stores.Looking.{look-refused-as-read, look-give
 use Rattle.rules.proofs.Serial.Events.{Read}
 use Rattle.rules.proofs.Serial.Stale.{Old}
 use Rattle.rules.proofs.Demand.Abstraction.{cardOf, viewOf, abstraction, Stale}
-use Rattle.rules.proofs.Demand.AbstractionLaws.{Proper, live-alive, account-read, view-account}
-use Rattle.rules.proofs.Demand.Views.{Keeps, keeps-still, keeps-old, was-alive, change-keeps-proper}
+use Rattle.rules.proofs.Demand.AbstractionLaws.{Proper, alive-started, live-alive, account-read, view-account}
+use Rattle.rules.proofs.Demand.Views.{RecordsKept, Keeps, keeps-still, keeps-old, was-alive, change-keeps-proper}
 
 -- ---- a look shows the view
 
@@ -55,9 +56,9 @@ view-looked s n k account given =
 
 -- ---- the event
 
-module _
-    (s : Ledger) (proper : Proper s) (n k : ℕ) (own : IsStarted (s .table) n) (alive : isLive (s .table) n ≡ true)
-    (account : k < accountCount) where
+module _ (s : Ledger) (proper : Proper s) (n k : ℕ) (permitted : Touchable (s .table) n k) where
+  open Touchable permitted using (own, alive, childless, account)
+
   abbrev before : List ℕ
   before = s .table
 
@@ -88,10 +89,16 @@ module _
   read-keeps : Keeps before after
   read-keeps =
       record {
+        parents = λ m l. change .parents m (alive-started before m (l .0));
+        writes = λ m j l inside. read-keeps-field before n k account m (writeField j) (omega arith) (λ z. omega arith);
+        reads = λ m j l. entry-kept m j;
+      }
+
+  -- a committed action isn't the reader
+  records-kept : RecordsKept before after
+  records-kept =
+      record {
         noFewer = le-of-eq (sym (change .sameStarted));
-        parents = change .parents;
-        writes = λ m j h inside. read-keeps-field before n k account m (writeField j) (omega arith) (λ z. omega arith);
-        reads = λ m j h. entry-kept m j;
         rows = λ m h done g inside. read-keeps-row before n k account m g inside (λ e. live-uncommitted before n alive (rw e at done));
       }
 
@@ -115,38 +122,37 @@ module _
 
   pub read-old : Old (abstraction s) (abstraction (read s n k .after)) (Stale s) (Stale (read s n k .after))
   unfolding read
-  read-old = keeps-old s after read-keeps
+  read-old = keeps-old s after read-keeps records-kept
 
   -- ---- RULES 3.3: what a look shows directly after the read
 
-  module _ (childless : hasLiveChild (s .table) n ≡ false) where
-    childless-after : hasLiveChild after n ≡ false
-    unfolding hasLiveChild actions
-    childless-after =
-        rw (change .sameStarted)
-        (any-agree (isLiveChildOf after n) (isLiveChildOf before n) 1 (started before)
-        (λ m h. rw (change .parents m (omega arith), state-kept m))
-        ∙ childless)
+  childless-after : hasLiveChild after n ≡ false
+  unfolding hasLiveChild actions
+  childless-after =
+      rw (change .sameStarted)
+      (any-agree (isLiveChildOf after n) (isLiveChildOf before n) 1 (started before)
+      (λ m h. rw (change .parents m (omega arith), state-kept m))
+      ∙ childless)
 
-    -- the read changes nothing for which a read is refused
-    look-allowed : lookCauseIn (withTable s after) n k ≡ 0
-    look-allowed =
-        look-refused-as-read after (s .base) (s .shadow) n k []
-        ∙ allowed-none after (s .base) (s .shadow) (readBy n k)
-        (record {
-          baseFits = proper .baseFits;
-          shadowFits = proper .shadowFits;
-          soundTest = tested after (proper-after .sound);
-          codeKnown = omega arith;
-          numberKnown = own-after .1;
-          named = λ _. own .0;
-          alive = λ _. rw (state-kept n) alive;
-          room = λ starts. absurd (false≢true starts);
-          accountKnown = λ _. account;
-          cardFits = λ writes. absurd (false≢true writes);
-          childless = λ _. childless-after;
-        })
+  -- the read changes nothing for which a read is refused
+  look-allowed : lookCauseIn (withTable s after) n k ≡ 0
+  look-allowed =
+      look-refused-as-read after (s .base) (s .shadow) n k []
+      ∙ allowed-none after (s .base) (s .shadow) (readBy n k)
+      (record {
+        baseFits = proper .baseFits;
+        shadowFits = proper .shadowFits;
+        soundTest = tested after (proper-after .sound);
+        codeKnown = omega arith;
+        numberKnown = own-after .1;
+        named = λ _. own .0;
+        alive = λ _. rw (state-kept n) alive;
+        room = λ starts. absurd (false≢true starts);
+        accountKnown = λ _. account;
+        cardFits = λ writes. absurd (false≢true writes);
+        childless = λ _. childless-after;
+      })
 
-    pub read-shows : viewOf (read s n k .after) n k ≡ lookedIn (read s n k .after) n k
-    unfolding read
-    read-shows = view-looked (withTable s after) n k account look-allowed
+  pub read-shows : viewOf (read s n k .after) n k ≡ lookedIn (read s n k .after) n k
+  unfolding read
+  read-shows = view-looked (withTable s after) n k account look-allowed

@@ -1,5 +1,5 @@
 -- A start as demand 3's proof sees it: the next number is live and has no effect, and nobody else has changed. Assumes nothing.
-use Prim.Native.Nat.{ℕ, _+_, _≤_, _<_}
+use Prim.Native.Nat.{ℕ, _+_}
 use native.Mathlib.Omega.{arith}
 use mathlib.Core.Path.{_≡_, ap}
 use mathlib.Core.Logic.{_≢_}
@@ -8,20 +8,19 @@ use mathlib.Core.Option.{none}
 use mathlib.Core.List.{List}
 use lib.Dec.{eqb}
 use borrow.Author.Tests.{eq-eqb}
-use Rattle.rules.specs.Table.{mostActions, started, parentField, stateField, readField, writeField, isLive}
+use Rattle.rules.specs.Table.{started, parentField, stateField, readField, writeField}
 use Rattle.rules.specs.Sound.{IsStarted}
 use Rattle.rules.specs.Ledger.{Ledger, withTable}
 use Rattle.rules.specs.Step.{startTable, start}
+use Rattle.rules.proofs.Laws.Permitted.{Startable}
 use Rattle.rules.proofs.Sound.Starting.{start-keeps-row, start-started, start-state, start-write, start-keeps-sound}
 use Rattle.rules.proofs.Serial.Events.{Start}
 use Rattle.rules.proofs.Serial.Stale.{Old}
 use Rattle.rules.proofs.Demand.Abstraction.{isAlive, effectOf, abstraction, Stale}
 use Rattle.rules.proofs.Demand.AbstractionLaws.{Proper, alive-started, alive-live, live-alive, effect-unwritten, effect-no-account, by-account}
-use Rattle.rules.proofs.Demand.Views.{RowKept, Keeps, keeps-still, keeps-old}
+use Rattle.rules.proofs.Demand.Views.{RowKept, RecordsKept, Keeps, keeps-still, keeps-old}
 
-module _
-    (s : Ledger) (proper : Proper s) (p : ℕ) (known : p ≤ started (s .table)) (alive : 1 ≤ p → isLive (s .table) p ≡ true)
-    (room : started (s .table) < mostActions) where
+module _ (s : Ledger) (proper : Proper s) (p : ℕ) (permitted : Startable (s .table) p) where
   abbrev before : List ℕ
   before = s .table
 
@@ -33,26 +32,30 @@ module _
   next = started before + 1
 
   last-start : started after ≡ next
-  last-start = start-started before p (proper .sound .long) room
+  last-start = start-started before p (proper .sound .long) (permitted .room)
 
   -- who had started before keeps its row
   row-kept : (m : ℕ) → IsStarted before m → RowKept before after m
   row-kept m h g inside = start-keeps-row before p m g inside (h .0) (λ z. omega arith)
 
+  live-row-kept : (m : ℕ) → isAlive before m ≡ true → RowKept before after m
+  live-row-kept m l = row-kept m (alive-started before m l)
+
   start-keeps : Keeps before after
   start-keeps =
       record {
-        noFewer = rw last-start (omega arith);
-        parents = λ m h. row-kept m h parentField (omega arith);
-        writes = λ m k h account. row-kept m h (writeField k) (omega arith);
-        reads = λ m k h account has. row-kept m h (readField k) (omega arith);
-        rows = λ m h done. row-kept m h;
+        parents = λ m l. live-row-kept m (l .0) parentField (omega arith);
+        writes = λ m k l account. live-row-kept m (l .0) (writeField k) (omega arith);
+        reads = λ m k l account has. live-row-kept m (l .0) (readField k) (omega arith);
       }
+
+  records-kept : RecordsKept before after
+  records-kept = record { noFewer = rw last-start (omega arith); rows = λ m h done. row-kept m h }
 
   start-keeps-proper : Proper (withTable s after)
   start-keeps-proper =
       record {
-        sound = start-keeps-sound before p (proper .sound) room known alive;
+        sound = start-keeps-sound before p (proper .sound) (permitted .room) (permitted .known) (permitted .alive);
         baseFits = proper .baseFits;
         shadowFits = proper .shadowFits;
       }
@@ -64,14 +67,14 @@ module _
 
   next-alive : isAlive after next ≡ true
   next-alive =
-      live-alive after next (omega (arith, last-start)) (eq-eqb _ _ (start-state before p (proper .sound .long) room))
+      live-alive after next (omega (arith, last-start)) (eq-eqb _ _ (start-state before p (proper .sound .long) (permitted .room)))
 
   next-no-effect : (k : ℕ) → effectOf (withTable s after) next k ≡ none
   next-no-effect k =
       by-account k
       (λ account.
       effect-unwritten (withTable s after) next k account
-      (ap (λ entry. not (eqb entry 0)) (start-write before p (proper .sound .long) room k account)))
+      (ap (λ entry. not (eqb entry 0)) (start-write before p (proper .sound .long) (permitted .room) k account)))
       (effect-no-account (withTable s after) next k)
 
   pub start-starts : Start (abstraction s) (abstraction (start s p .after)) (started (s .table) + 1)
@@ -86,4 +89,4 @@ module _
 
   pub start-old : Old (abstraction s) (abstraction (start s p .after)) (Stale s) (Stale (start s p .after))
   unfolding start
-  start-old = keeps-old s after start-keeps
+  start-old = keeps-old s after start-keeps records-kept

@@ -4,11 +4,11 @@ use Prim.Native.Nat.{ℕ, suc, _+_}
 use native.Mathlib.Nat.{zero-add, add-zero, add-suc, suc-add}
 use native.Mathlib.Omega.{arith}
 use mathlib.Core.Path.{_≡_, refl, sym, ap, _∙_}
-use mathlib.Core.Bool.{true, false, _||_}
+use mathlib.Core.Bool.{true}
 use mathlib.Core.List.{List, [], _∷_}
 use lib.ListN.{length}
 use Rattle.rules.specs.Card.{baseLength, shadowLength, basePlace, cardAt}
-use Rattle.rules.specs.Table.{newTable, word, isLive}
+use Rattle.rules.specs.Table.{newTable, word}
 use Rattle.rules.specs.Sound.{IsStarted}
 use Rattle.rules.specs.Event.{Event, isStart, isRead, isWrite, isCommit}
 use Rattle.rules.specs.declared.Found.{Found}
@@ -21,11 +21,9 @@ use Rattle.rules.specs.Serial.Told.{told}
 use Rattle.rules.specs.Serial.Collect.{Known, commitsAt, laidAll, stepped, collectOne, collectFrom, unknown, storeBlock}
 use Rattle.rules.specs.Serial.Machine.{serial}
 use Rattle.rules.specs.Serial.Demand.{cardGiven, newOver, answersTo, Demand3}
-use Rattle.rules.proofs.Laws.Tests.{or-inl, or-inr}
 use Rattle.rules.proofs.Laws.Bytes.{store-by-cards}
-use Rattle.rules.proofs.Laws.EventCases.{AllowedIn, step-by-cause, act-by-kind, read-no-start, write-no-start, commit-no-start}
-use Rattle.rules.proofs.Sound.Judging.{Committable, fail-change}
-use Rattle.rules.proofs.Sound.Aborting.{abort-change}
+use Rattle.rules.proofs.Laws.EventCases.{AllowedIn, step-by-cause, act-by-kind}
+use Rattle.rules.proofs.Laws.Permitted.{Committable, start-permitted, read-permitted, write-permitted, commit-permitted}
 use Rattle.rules.proofs.Sound.Kept.{new-sound, step-keeps-sound}
 use Rattle.rules.proofs.Stores.Untouched.{lengths-kept}
 use Rattle.rules.proofs.Serial.Invariant.{inv-opening}
@@ -34,7 +32,9 @@ use Rattle.rules.proofs.Serial.Exact.{exact-acts}
 use Rattle.rules.proofs.Serial.Order.{in-order}
 use Rattle.rules.proofs.Demand.AbstractionLaws.{Proper, alive-started, card-of-store}
 use Rattle.rules.proofs.Demand.Reads.{lookedIn}
-use Rattle.rules.proofs.Demand.Drops.{abort-drops, abort-old, fail-drops, fail-old}
+use Rattle.rules.proofs.Demand.Drops.{abort-drops, fail-drops}
+use Rattle.rules.proofs.Demand.JudgingRule.{JudgingRule}
+use Rattle.rules.proofs.Demand.Backward.{backward}
 use Rattle.rules.proofs.Demand.Collected.{Kept, drop-kept, start-kept, read-kept, write-kept, pass-kept}
 
 -- ---- one event
@@ -48,65 +48,50 @@ step-keeps-proper s e proper =
       shadowFits = lengths .ofShadow ∙ proper .shadowFits;
     }
 
-module _ (got opening : ℕ → List ℕ) (i : ℕ) (e : Event) {s : Ledger} {c : Known} (kept : Kept got opening s c) where
-  -- an outcome that may be proper, and after which a look shows what the place was given, keeps what is kept
-  Keeps : Outcome → Type 0
-  Keeps o =
+module _ (J : JudgingRule) (got opening : ℕ → List ℕ) (i : ℕ) (e : Event) {s : Ledger} {c : Known} (kept : Kept J got opening s c) where
+  -- what is kept is kept after an outcome that is proper and after which a look shows what the place was given
+  KeptAfter : Outcome → Type 0
+  KeptAfter o =
       Proper (o .after) → lookedIn (o .after) (e .number) (e .account) ≡ got i →
-      Kept got opening (o .after) (collectOne i e (told (o .answer)) (commitsAt e (told (o .answer))) c)
+      Kept J got opening (o .after) (collectOne i e (told (o .answer)) (commitsAt e (told (o .answer))) c)
 
   module _ (a : AllowedIn s e) where
-    own : isStart e ≡ false → IsStarted (s .table) (e .number)
-    own other = (a .named other, a .numberKnown)
+    starts : isStart e ≡ true → KeptAfter (start s (e .number))
+    unfolding KeptAfter start collectOne commitsAt stepped laidAll
+    starts is proper′ given = start-kept J got opening kept i (e .number) (start-permitted a is) proper′
 
-    alive : isStart e ≡ false → isLive (s .table) (e .number) ≡ true
-    alive other = a .alive (a .named other)
+    reads : isRead e ≡ true → KeptAfter (read s (e .number) (e .account))
+    unfolding KeptAfter read collectOne commitsAt stepped laidAll
+    reads is proper′ given = read-kept J got opening kept i (e .number) (e .account) (read-permitted a is) proper′ given
 
-    starts : isStart e ≡ true → Keeps (start s (e .number))
-    unfolding Keeps start collectOne commitsAt stepped laidAll
-    starts is proper′ given = start-kept got opening kept i (e .number) (a .numberKnown) (a .alive) (a .room is) proper′
-
-    reads : isRead e ≡ true → Keeps (read s (e .number) (e .account))
-    unfolding Keeps read collectOne commitsAt stepped laidAll
-    reads is proper′ given =
-        let other = read-no-start e is in
-        let used = or-inl (isWrite e) is in
-        read-kept got opening kept i (e .number) (e .account) (own other) (alive other) (a .accountKnown used)
-        (a .childless (or-inl (isCommit e) used)) proper′ given
-
-    writes : isWrite e ≡ true → Keeps (write s (e .number) (e .account) (e .card))
-    unfolding Keeps write collectOne commitsAt stepped laidAll
+    writes : isWrite e ≡ true → KeptAfter (write s (e .number) (e .account) (e .card))
+    unfolding KeptAfter write collectOne commitsAt stepped laidAll
     writes is proper′ given =
-        let other = write-no-start e is in
-        let used = or-inr (isRead e) is in
-        write-kept got opening kept i (e .number) (e .account) (own other) (alive other) (a .accountKnown used)
-        (a .childless (or-inl (isCommit e) used)) (e .card) (a .cardFits is) proper′
+        write-kept J got opening kept i (e .number) (e .account) (write-permitted a is) (e .card) (a .cardFits is) proper′
 
-    judges : Committable (s .table) (e .number) → (f : Found) → firstClash (s .table) (e .number) ≡ f → Keeps (judged s (e .number) f)
-    unfolding Keeps judged collectOne commitsAt stepped laidAll
-    judges j Nothing clear proper′ given = pass-kept got opening kept i (e .number) j proper′ clear
+    judges : Committable (s .table) (e .number) → (f : Found) → firstClash (s .table) (e .number) ≡ f → KeptAfter (judged s (e .number) f)
+    unfolding KeptAfter judged collectOne commitsAt stepped laidAll
+    judges j Nothing clear proper′ given =
+        pass-kept J got opening kept i (e .number) j proper′ (J .passes s (kept .proper) (e .number) j clear)
     judges j (At t k) clash proper′ given =
-        drop-kept got opening kept i proper′ (fail-change (s .table) (kept .proper .sound) (e .number) j)
-        (fail-drops s (kept .proper) (e .number) j) (fail-old s (kept .proper) (e .number) j)
+        drop-kept J got opening kept i _ proper′
+        (fail-drops s (kept .proper) (e .number) j) (J .at-failed-commit s (kept .proper) (e .number) j)
 
-    commits : isCommit e ≡ true → Keeps (commit s (e .number))
+    commits : isCommit e ≡ true → KeptAfter (commit s (e .number))
     unfolding commit
-    commits is =
-        let other = commit-no-start e is in
-        judges (record { own = own other; alive = alive other; childless = a .childless (or-inr (isRead e || isWrite e) is) })
-        (firstClash (s .table) (e .number)) refl
+    commits is = judges (commit-permitted a is) (firstClash (s .table) (e .number)) refl
 
-    aborts : Keeps (abort s (e .number))
-    unfolding Keeps abort collectOne commitsAt stepped laidAll
+    aborts : KeptAfter (abort s (e .number))
+    unfolding KeptAfter abort collectOne commitsAt stepped laidAll
     aborts proper′ given =
-        drop-kept got opening kept i proper′ (abort-change (s .table) (e .number) (kept .proper .sound))
-        (abort-drops s (kept .proper) (e .number)) (abort-old s (kept .proper) (e .number))
+        drop-kept J got opening kept i _ proper′
+        (abort-drops s (kept .proper) (e .number)) (J .at-abort s (kept .proper) (e .number))
 
-  step-keeps : Keeps (step s e)
-  unfolding Keeps collectOne commitsAt stepped laidAll
+  step-keeps : KeptAfter (step s e)
+  unfolding KeptAfter collectOne commitsAt stepped laidAll
   step-keeps =
-      step-by-cause s e Keeps (λ _ _. kept)
-      (λ a. act-by-kind s e Keeps (starts a) (reads a) (writes a) (commits a) (λ _. aborts a))
+      step-by-cause s e KeptAfter (λ _ _. kept)
+      (λ a. act-by-kind s e KeptAfter (starts a) (reads a) (writes a) (commits a) (λ _. aborts a))
 
 -- ---- a list of events
 
@@ -117,13 +102,13 @@ Shows got i s (e ∷ es) =
     (lookedIn (step s e .after) (e .number) (e .account) ≡ got i) × Shows got (suc i) (step s e .after) es
 
 run-keeps :
-    (got opening : ℕ → List ℕ) (i : ℕ) (es : List Event) {s : Ledger} {c : Known} → Kept got opening s c → Shows got i s es →
-    Kept got opening (run s es .after) (collectFrom i es (run s es .answers) c)
-unfolding run collectFrom Shows Keeps
-run-keeps got opening i [] kept shown = kept
-run-keeps got opening i (e ∷ es) {s} kept shown =
-    run-keeps got opening (suc i) es
-    (step-keeps got opening i e kept (step-keeps-proper s e (kept .proper)) (shown .0)) (shown .1)
+    (J : JudgingRule) (got opening : ℕ → List ℕ) (i : ℕ) (es : List Event) {s : Ledger} {c : Known} →
+    Kept J got opening s c → Shows got i s es → Kept J got opening (run s es .after) (collectFrom i es (run s es .answers) c)
+unfolding run collectFrom Shows KeptAfter
+run-keeps J got opening i [] kept shown = kept
+run-keeps J got opening i (e ∷ es) {s} kept shown =
+    run-keeps J got opening (suc i) es
+    (step-keeps J got opening i e kept (step-keeps-proper s e (kept .proper)) (shown .0)) (shown .1)
 
 given-shows : (got : ℕ → List ℕ) (i : ℕ) (s : Ledger) (es : List Event) → ((j : ℕ) → got (i + j) ≡ cardGiven s es j) → Shows got i s es
 unfolding Shows cardGiven run
@@ -133,24 +118,24 @@ given-shows got i s (e ∷ es) same = (
   given-shows got (suc i) (step s e .after) es (λ j. ap got (suc-add i j ∙ sym (add-suc i j)) ∙ same (suc j)),
 )
 
--- ---- demand 3
+-- ---- demand 3, under any judging rule
 
 -- nobody has started in a new table
 new-empty : (n : ℕ) → IsStarted newTable n → ⊥
 unfolding newTable word
 new-empty n h = omega arith
 
-module _ (base shadow : List ℕ) (baseFits : length base ≡ baseLength) (shadowFits : length shadow ≡ shadowLength) where
+module _ (J : JudgingRule) (base shadow : List ℕ) (baseFits : length base ≡ baseLength) (shadowFits : length shadow ≡ shadowLength) where
   abbrev openingCards : ℕ → List ℕ
   openingCards k = cardAt base (basePlace k)
 
-  kept-at-first : (got : ℕ → List ℕ) → Kept got openingCards (newOver base shadow) unknown
+  kept-at-first : (got : ℕ → List ℕ) → Kept J got openingCards (newOver base shadow) unknown
   unfolding unknown Whole OnlyChildren
   kept-at-first got =
       record {
         proper = record { sound = new-sound; baseFits = baseFits; shadowFits = shadowFits };
         holds = inv-opening (λ X l. new-empty X (alive-started newTable X l)) (card-of-store (newOver base shadow)) refl;
-        parents = λ n h. absurd (new-empty n h);
+        parents = λ X l. absurd (new-empty X (alive-started newTable X l));
         whole = λ n. tt;
         top = tt;
       }
@@ -162,9 +147,9 @@ module _ (base shadow : List ℕ) (baseFits : length base ≡ baseLength) (shado
     abbrev final : Ledger
     final = run (newOver base shadow) es .after
 
-    kept-at-last : Kept got openingCards final (collectFrom 0 es (answersTo base shadow es) unknown)
+    kept-at-last : Kept J got openingCards final (collectFrom 0 es (answersTo base shadow es) unknown)
     kept-at-last =
-        run-keeps got openingCards 0 es (kept-at-first got)
+        run-keeps J got openingCards 0 es (kept-at-first got)
         (given-shows got 0 (newOver base shadow) es (λ j. ap got (zero-add j)))
 
     block-ran : SerialRun got (storeBlock es (answersTo base shadow es)) base (serial es (answersTo base shadow es) base)
@@ -178,11 +163,17 @@ module _ (base shadow : List ℕ) (baseFits : length base ≡ baseLength) (shado
     unfolding storeBlock
     same-cards k = block-ran .leaves k ∙ kept-at-last .holds .store .leaves k ∙ card-of-store final k
 
-    pub demand3 : Demand3 base shadow es
-    demand3 =
+    demand3-under : Demand3 base shadow es
+    demand3-under =
         record {
           reads = block-ran .reads;
           store = store-by-cards _ _ (block-ran .long) (kept-at-last .proper .baseFits) (λ k _. same-cards k);
           exact = exact-acts es (answersTo base shadow es);
           order = in-order es (answersTo base shadow es);
         }
+
+-- ---- demand 3
+
+pub demand3 :
+    (base shadow : List ℕ) → length base ≡ baseLength → length shadow ≡ shadowLength → (es : List Event) → Demand3 base shadow es
+demand3 = demand3-under backward

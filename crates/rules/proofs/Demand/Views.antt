@@ -46,22 +46,31 @@ unfolding isRecordOf
 record-kept w v Q m row =
     rw (row parentField (omega arith), row stateField (omega arith), writes-agree w v m (λ k h. row (writeField k) (omega arith)))
 
--- A stale read stays stale where committed actions keep their rows: what makes it stale is one of them. And whoever has read
--- the account at no later a time has a stale read too.
-pub stale-stays :
-    (s t : Ledger) {X Y Q k : ℕ} → k < accountCount → started (s .table) ≤ started (t .table) →
-    ((m : ℕ) → IsStarted (s .table) m → isCommitted (s .table) m ≡ true → RowKept (s .table) (t .table) m) →
-    readTime (t .table) Y k ≤ readTime (s .table) X k → Stale s X Q k → Stale t Y Q k
-stale-stays s t {Q = Q} {k = k} account no-fewer rows no-later st =
-    let m = st .holder in
-    let row = rows m (st .begun) (record-committed (s .table) Q m (st .isRecord)) in
+-- A read is stale by a record: while the record's row is kept, whoever has read the account at no later a time has a stale read.
+pub stale-by-kept-row :
+    (s t : Ledger) {X Y Q k : ℕ} → k < accountCount → (st : Stale s X Q k) → IsStarted (t .table) (st .holder) →
+    RowKept (s .table) (t .table) (st .holder) → readTime (t .table) Y k ≤ readTime (s .table) X k → Stale t Y Q k
+stale-by-kept-row s t {Q = Q} {k = k} account st begun row no-later =
     record {
-      holder = m;
-      begun = omega (arith, st .begun);
-      isRecord = record-kept (s .table) (t .table) Q m row ∙ st .isRecord;
+      holder = st .holder;
+      begun = begun;
+      isRecord = record-kept (s .table) (t .table) Q (st .holder) row ∙ st .isRecord;
       written = rw (row (writeField k) (omega arith)) (st .written);
       later = rw (row endField (omega arith)) (omega (arith, st .later));
     }
+
+-- every committed action keeps its row
+pub record RecordsKept (w v : List ℕ) : Type 0 where
+  pub noFewer : started w ≤ started v
+  pub rows : (m : ℕ) → IsStarted w m → isCommitted w m ≡ true → RowKept w v m
+
+-- then every stale read stays stale: what makes it so is one of them
+pub stale-stays :
+    (s t : Ledger) {X Y Q k : ℕ} → k < accountCount → RecordsKept (s .table) (t .table) →
+    readTime (t .table) Y k ≤ readTime (s .table) X k → Stale s X Q k → Stale t Y Q k
+stale-stays s t {Q = Q} account kept no-later st =
+    stale-by-kept-row s t account st (omega (arith, st .begun, kept .noFewer))
+    (kept .rows (st .holder) (st .begun) (record-committed (s .table) Q (st .holder) (st .isRecord))) no-later
 
 -- ---- places
 
@@ -73,37 +82,42 @@ shadow-fits {s} proper X k begun account =
 
 -- ---- an event that touches no store
 
--- The table v keeps of each action of w the parent, the writes and the reads, and of each that has committed the whole row.
--- For the rest, reads may have been entered, live actions may have ended and one may have begun.
+-- action m is live in both tables
+abbrev pub LivesOn : List ℕ → List ℕ → ℕ → Type 0
+LivesOn w v m = (isAlive w m ≡ true) × (isAlive v m ≡ true)
+
+-- The table v keeps of each action that lives on the parent, the writes and the reads. For the rest, reads may have been
+-- entered, live actions may have ended and one may have begun.
 pub record Keeps (w v : List ℕ) : Type 0 where
-  pub noFewer : started w ≤ started v
-  pub parents : (m : ℕ) → IsStarted w m → parentOf v m ≡ parentOf w m
-  pub writes : (m k : ℕ) → IsStarted w m → k < accountCount → writeEntry v m k ≡ writeEntry w m k
-  pub reads : (m k : ℕ) → IsStarted w m → k < accountCount → hasRead w m k ≡ true → readEntry v m k ≡ readEntry w m k
-  pub rows : (m : ℕ) → IsStarted w m → isCommitted w m ≡ true → RowKept w v m
+  pub parents : (m : ℕ) → LivesOn w v m → parentOf v m ≡ parentOf w m
+  pub writes : (m k : ℕ) → LivesOn w v m → k < accountCount → writeEntry v m k ≡ writeEntry w m k
+  pub reads : (m k : ℕ) → LivesOn w v m → k < accountCount → hasRead w m k ≡ true → readEntry v m k ≡ readEntry w m k
 
 module _ (s : Ledger) (v : List ℕ) (kept : Keeps (s .table) v) where
   entry-kept :
-      (X k : ℕ) → isAlive (s .table) X ≡ true → hasReadAccount (s .table) X k ≡ true → readEntry v X k ≡ readEntry (s .table) X k
-  entry-kept X k l has =
-      kept .reads X k (alive-started (s .table) X l) (read-account (s .table) X k has) (read-entered (s .table) X k has)
+      (X k : ℕ) → LivesOn (s .table) v X → hasReadAccount (s .table) X k ≡ true → readEntry v X k ≡ readEntry (s .table) X k
+  entry-kept X k l has = kept .reads X k l (read-account (s .table) X k has) (read-entered (s .table) X k has)
 
-  read-kept : (X k : ℕ) → isAlive (s .table) X ≡ true → hasReadAccount (s .table) X k ≡ true → hasReadAccount v X k ≡ true
+  read-kept : (X k : ℕ) → LivesOn (s .table) v X → hasReadAccount (s .table) X k ≡ true → hasReadAccount v X k ≡ true
   read-kept X k l has =
       account-read v X k (read-account (s .table) X k has) (rw (entry-kept X k l has) (read-entered (s .table) X k has))
 
   pub keeps-still : Proper s → Proper (withTable s v) → Still (abstraction s) (abstraction (withTable s v))
   keeps-still proper proper′ =
       lays-nothing (abstract-tree s proper) (abstract-tree (withTable s v) proper′)
-      (λ X x. kept .parents X (alive-started (s .table) X (x .before)))
-      (λ X k x. read-kept X k (x .before))
-      (λ X k x. effect-kept s (withTable s v) X k (kept .writes X k (alive-started (s .table) X (x .before))) (λ _. refl))
+      (λ X x. kept .parents X (x .before, x .after))
+      (λ X k x. read-kept X k (x .before, x .after))
+      (λ X k x. effect-kept s (withTable s v) X k (kept .writes X k (x .before, x .after)) (λ _. refl))
       (λ k. card-of-store (withTable s v) k ∙ sym (card-of-store s k))
 
-  pub keeps-old : Old (abstraction s) (abstraction (withTable s v)) (Stale s) (Stale (withTable s v))
-  keeps-old X Q k x has seen =
-      stale-stays s (withTable s v) (read-account (s .table) X k has) (kept .noFewer) (kept .rows)
-      (le-of-eq (ap (λ entry. entry - 1) (entry-kept X k (x .before) has)))
+  -- no read that lives on is later than it was
+  pub keeps-times :
+      (X k : ℕ) → LivesOn (s .table) v X → hasReadAccount (s .table) X k ≡ true → readTime v X k ≤ readTime (s .table) X k
+  keeps-times X k l has = le-of-eq (ap (λ entry. entry - 1) (entry-kept X k l has))
+
+  pub keeps-old : RecordsKept (s .table) v → Old (abstraction s) (abstraction (withTable s v)) (Stale s) (Stale (withTable s v))
+  keeps-old records X Q k x has seen =
+      stale-stays s (withTable s v) (read-account (s .table) X k has) records (keeps-times X k (x .before, x .after) has)
 
 -- ---- an event that starts nothing
 

@@ -5,12 +5,11 @@ use native.Mathlib.Decide.{ℕ-discrete}
 use native.Mathlib.Nat.{le-of-eq}
 use mathlib.Core.Path.{_≡_, sym, ap, _∙_}
 use mathlib.Core.Logic.{_⊎_, inl, inr, _≢_}
-use mathlib.Core.Bool.{true, false}
+use mathlib.Core.Bool.{true}
 use mathlib.Core.Option.{some}
 use mathlib.Core.List.{List}
-use lib.ListN.{length}
-use Rattle.rules.specs.Card.{accountCount, cardLength, shadowPlace}
-use Rattle.rules.specs.Table.{width, word, stateField, readField, readEntry, writeField, writeEntry, entered, isLive, isCommitted, hasLiveChild}
+use Rattle.rules.specs.Card.{accountCount, IsCard, shadowPlace}
+use Rattle.rules.specs.Table.{width, word, stateField, readField, readEntry, writeField, writeEntry, entered}
 use Rattle.rules.specs.Sound.{IsStarted}
 use Rattle.rules.specs.Ledger.{Ledger}
 use Rattle.rules.specs.Step.{writeTable, write}
@@ -26,13 +25,13 @@ use Rattle.rules.proofs.Serial.Events.{Write}
 use Rattle.rules.proofs.Serial.Stale.{Old}
 use Rattle.rules.proofs.Demand.Abstraction.{isAlive, effectOf, hasReadAccount, abstraction, Stale}
 use Rattle.rules.proofs.Demand.AbstractionLaws.{Proper, alive-started, alive-live, live-alive, read-account, read-entered, account-read, effect-written, card-of-store, abstract-tree}
-use Rattle.rules.proofs.Sound.Judging.{no-live-child}
+use Rattle.rules.proofs.Laws.Permitted.{Touchable, no-live-child}
 use Rattle.rules.proofs.Stores.Copies.{shadow-apart}
-use Rattle.rules.proofs.Demand.Views.{was-alive, same-parent, effect-kept, shadow-fits, RowKept, stale-stays}
+use Rattle.rules.proofs.Demand.Views.{was-alive, same-parent, effect-kept, shadow-fits, RowKept, RecordsKept, stale-stays}
 
-module _
-    {s : Ledger} (proper : Proper s) {n k : ℕ} (card : List ℕ) (own : IsStarted (s .table) n) (alive : isLive (s .table) n ≡ true)
-    (account : k < accountCount) (whole : length card ≡ cardLength) where
+module _ (s : Ledger) (proper : Proper s) (n k : ℕ) (permitted : Touchable (s .table) n k) (card : List ℕ) (whole : IsCard card) where
+  open Touchable permitted using (own, alive, childless, account)
+
   -- the state and the table after the write
   abbrev written : Ledger
   written = write s n k card .after
@@ -124,9 +123,9 @@ module _
   writer-alive =
       live-alive table′ n (rw (table-change .sameStarted) own) (rw (field-kept n stateField (omega arith) (λ z. omega arith)) alive)
 
-  pub abstract-write : hasLiveChild (s .table) n ≡ false → Write (abstraction s) (abstraction (write s n k card .after)) n k (some card)
+  pub abstract-write : Write (abstraction s) (abstraction (write s n k card .after)) n k (some card)
   unfolding write
-  abstract-write childless =
+  abstract-write =
       record {
         change = abstract-change;
         nobody-new = was-alive table-change;
@@ -135,12 +134,15 @@ module _
       }
 
   -- a committed action isn't the writer
-  committed-row-kept : (m : ℕ) → isCommitted (s .table) m ≡ true → RowKept (s .table) table′ m
-  committed-row-kept m done = row-kept m (λ e. live-uncommitted (s .table) n alive (rw e at done))
+  records-kept : RecordsKept (s .table) table′
+  records-kept =
+      record {
+        noFewer = le-of-eq (sym (table-change .sameStarted));
+        rows = λ m begun done. row-kept m (λ e. live-uncommitted (s .table) n alive (rw e at done));
+      }
 
   pub stale-after-write : Old (abstraction s) (abstraction (write s n k card .after)) (Stale s) (Stale (write s n k card .after))
   unfolding write
   stale-after-write X Q j x has seen =
       let h = read-account (s .table) X j has in
-      stale-stays s written h (le-of-eq (sym (table-change .sameStarted))) (λ m begun. committed-row-kept m)
-      (omega (arith, read-entry-kept X j h))
+      stale-stays s written h records-kept (omega (arith, read-entry-kept X j h))

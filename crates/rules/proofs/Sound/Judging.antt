@@ -5,36 +5,22 @@ use native.Mathlib.Decide.{ℕ-discrete}
 use native.Mathlib.Nat.{le-of-eq}
 use mathlib.Core.Path.{_≡_, refl, sym, ap, _∙_}
 use mathlib.Core.Logic.{_⊎_, inl, inr, ⊎-elim, _≢_}
-use mathlib.Core.Bool.{true, false, not}
+use mathlib.Core.Bool.{true, not}
 use mathlib.Core.List.{List}
 use borrow.Author.Tests.{eqb-true, eqb-false, eq-eqb, ne-eqb, not-true}
 use lib.Dec.{eqb}
 use Rattle.rules.specs.Range.{count}
 use Rattle.rules.specs.Card.{accountCount}
-use Rattle.rules.specs.Table.{hasEnd, width, mostActions, live, committed, aborted, word, startedField, started, counterField, counter, parentField, parentOf, stateField, stateOf, withState, endField, endTime, readField, readEntry, hasRead, readTime, writeField, hasWrites, isLive, isCommitted, isLiveChildOf, hasLiveChild, actions}
+use Rattle.rules.specs.Table.{hasEnd, width, mostActions, live, committed, aborted, word, startedField, started, counterField, counter, parentField, parentOf, stateField, stateOf, withState, endField, endTime, readField, readEntry, hasRead, readTime, writeField, hasWrites, isLive, isCommitted, actions}
 use Rattle.rules.specs.Sound.{hasState, IsStarted, Sound}
 use Rattle.rules.specs.Step.{commitTime, commitCounter, joinedRead, commitTable}
-use Rattle.rules.proofs.Laws.Tests.{and-left, and-right, and-both, not-both, test, false-of-not-true}
-use Rattle.rules.proofs.Laws.Ranges.{not-any-at, count-agree, count-one-more}
+use Rattle.rules.proofs.Laws.Tests.{and-left, and-right, and-both, test, false-of-not-true}
+use Rattle.rules.proofs.Laws.Ranges.{count-agree, count-one-more}
+use Rattle.rules.proofs.Laws.Permitted.{Committable, no-live-child, not-own-parent}
 use Rattle.rules.proofs.Laws.Words.{withWord-length, word-same, word-other-row, word-off-field}
 use Rattle.rules.proofs.Laws.Walking.{parent-known}
 use Rattle.rules.proofs.Sound.TableChanges.{TableChange, Ended, writes-agree, live-uncommitted}
 use Rattle.rules.proofs.Sound.Committing.{commit-length, commit-started, commit-parent, commit-keeps-row, commit-keeps-sets, commit-counter, commit-state, commit-end, commit-read}
-
--- an action that may be judged: it is live and has no live child
-pub record Committable (w : List ℕ) (n : ℕ) : Type 0 where
-  pub own : IsStarted w n
-  pub alive : isLive w n ≡ true
-  pub childless : hasLiveChild w n ≡ false
-
-pub no-live-child : (w : List ℕ) (n : ℕ) → hasLiveChild w n ≡ false → (m : ℕ) → IsStarted w m → isLive w m ≡ true → parentOf w m ≡ n → ⊥
-unfolding hasLiveChild actions
-no-live-child w n none m h l e =
-    not-both (and-both (eq-eqb _ _ e) l) (not-any-at (isLiveChildOf w n) 1 (started w) m none (omega arith))
-
--- so it is not its own parent
-pub not-own-parent : {w : List ℕ} {n : ℕ} → Committable w n → parentOf w n ≢ n
-not-own-parent {w} {n} j = no-live-child w n (j .childless) n (j .own) (j .alive)
 
 -- ---- one action finishes: what its state alone gives of a change
 

@@ -2,11 +2,11 @@
 -- of the folder leads to. Assumes nothing.
 use Prim.Native.Nat.{ℕ}
 use mathlib.Core.Path.{_≡_, refl}
-use mathlib.Core.Bool.{true, false, _||_}
+use mathlib.Core.Bool.{true}
 use mathlib.Core.List.{List, [], _∷_}
 use Rattle.rules.specs.Range.{upFrom, all, count}
 use Rattle.rules.specs.Table.{word, newTable, actions}
-use Rattle.rules.specs.Sound.{sound, IsStarted, Sound}
+use Rattle.rules.specs.Sound.{sound, Sound}
 use Rattle.rules.specs.Event.{Event, isStart, isRead, isWrite, isCommit}
 use Rattle.rules.specs.declared.Found.{Found}
 use Rattle.rules.specs.declared.Found.the-variants.{Nothing, At}
@@ -14,14 +14,14 @@ use Rattle.rules.specs.Clash.{firstClash}
 use Rattle.rules.specs.Ledger.{Ledger}
 use Rattle.rules.specs.Step.{Outcome, start, read, write, committedUnder, judged, commit, abort, step}
 use Rattle.rules.specs.Run.{run}
-use Rattle.rules.proofs.Laws.Tests.{or-inl, or-inr}
-use Rattle.rules.proofs.Laws.EventCases.{AllowedIn, step-by-cause, act-by-kind, write-no-start, commit-no-start}
+use Rattle.rules.proofs.Laws.EventCases.{AllowedIn, step-by-cause, act-by-kind}
+use Rattle.rules.proofs.Laws.Permitted.{Committable, start-permitted, read-permitted, write-permitted, commit-permitted}
 use Rattle.rules.proofs.Sound.Soundness.{facts}
 use Rattle.rules.proofs.Sound.TableChanges.{TableChange, change-keeps-sound}
 use Rattle.rules.proofs.Sound.Starting.{start-keeps-sound}
 use Rattle.rules.proofs.Sound.Reading.{read-change}
 use Rattle.rules.proofs.Sound.Writing.{write-change}
-use Rattle.rules.proofs.Sound.Judging.{Committable, fail-change, commit-change}
+use Rattle.rules.proofs.Sound.Judging.{fail-change, commit-change}
 use Rattle.rules.proofs.Sound.Aborting.{abort-change}
 
 pub new-sound : Sound newTable
@@ -43,21 +43,19 @@ module _ (s : Ledger) (e : Event) (a : AllowedIn s e) where
 
   start-sound : isStart e ≡ true → Sounds (start s (e .number))
   unfolding start
-  start-sound p = start-keeps-sound (s .table) (e .number) was (a .room p) (a .numberKnown) (a .alive)
+  start-sound is =
+      let p = start-permitted a is in
+      start-keeps-sound (s .table) (e .number) was (p .room) (p .known) (p .alive)
 
   read-sound : isRead e ≡ true → Sounds (read s (e .number) (e .account))
   unfolding read
-  read-sound p = by-change _ (read-change (s .table) (e .number) (e .account) (a .accountKnown (or-inl (isWrite e) p)) was)
-
-  own : isStart e ≡ false → IsStarted (s .table) (e .number)
-  own other = (a .named other, a .numberKnown)
+  read-sound is = by-change _ (read-change (s .table) (e .number) (e .account) (read-permitted a is .account) was)
 
   write-sound : isWrite e ≡ true → Sounds (write s (e .number) (e .account) (e .card))
   unfolding write
-  write-sound p =
-      let named = own (write-no-start e p) in
-      by-change _
-      (write-change (s .table) was (e .number) (e .account) named (a .alive (named .0)) (a .accountKnown (or-inr (isRead e) p)))
+  write-sound is =
+      let p = write-permitted a is in
+      by-change _ (write-change (s .table) was (e .number) (e .account) (p .own) (p .alive) (p .account))
 
   judged-sound : Committable (s .table) (e .number) → (f : Found) → Sounds (judged s (e .number) f)
   unfolding judged committedUnder
@@ -66,10 +64,7 @@ module _ (s : Ledger) (e : Event) (a : AllowedIn s e) where
 
   commit-sound : isCommit e ≡ true → Sounds (commit s (e .number))
   unfolding commit
-  commit-sound p =
-      let named = own (commit-no-start e p) in
-      judged-sound (record { own = named; alive = a .alive (named .0); childless = a .childless (or-inr (isRead e || isWrite e) p) })
-      (firstClash (s .table) (e .number))
+  commit-sound is = judged-sound (commit-permitted a is) (firstClash (s .table) (e .number))
 
   abort-sound : Sounds (abort s (e .number))
   unfolding abort
