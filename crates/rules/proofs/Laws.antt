@@ -4,6 +4,7 @@ pub mod Negated
 pub mod Ranges
 pub mod Puts
 pub mod Words
+pub mod Fields
 pub mod Sets
 pub mod Cards
 pub mod Bytes

@@ -34,6 +34,10 @@ word w n f = getD w (width * n + f) 0
 unfoldable pub withWord : List ℕ → ℕ → ℕ → ℕ → List ℕ
 withWord w n f v = set w (width * n + f) v
 
+-- several fields of row n given anew: for each k of ks, field k gets values k
+unfoldable pub withFields : List ℕ → ℕ → (ℕ → ℕ) → List ℕ → (ℕ → ℕ) → List ℕ
+withFields w n field ks values = fold (λ k now. withWord now n (field k) (values k)) ks w
+
 -- RULES 1.6: no action, counter 0
 unfoldable pub newTable : List ℕ
 newTable = replicate tableLength 0
