@@ -3,7 +3,7 @@ use mathlib.Core.Path.{_≡_, refl}
 use mathlib.Core.List.{map}
 use Rattle.rules.specs.Range.{upFrom, any, all, count, filter, fold}
 use Rattle.rules.specs.Card.{accounts, cardAt, withCard}
-use Rattle.rules.specs.Table.{word, withWord, newTable, hasWrites, withSets, actions, hasLiveChild, isRecordOf, records}
+use Rattle.rules.specs.Table.{word, withWord, withFields, newTable, hasWrites, withSets, actions, hasLiveChild, isRecordOf, records}
 use Rattle.rules.specs.Walk.{walkUp, isAtOrBelow}
 use Rattle.rules.specs.Sound.{hasReadInTime, hasEndAlone, isSoundAction, sound}
 use Rattle.rules.specs.Cause.{storeCauses, eventCauses, causesOf, causeOf}
@@ -20,10 +20,10 @@ use Rattle.rules.specs.Serial.Machine.{shows, settle, written, ended, perform, 
 use Rattle.cases.specs.Example.{example, exampleRun, exampleExpected}
 
 pub cases-hold : map (λ c. resultOf (c .question)) cases ≡ map (λ c. c .expected) cases
-unfolding upFrom any all count filter fold accounts cardAt withCard word withWord newTable hasWrites withSets actions hasLiveChild isRecordOf records walkUp isAtOrBelow hasReadInTime hasEndAlone isSoundAction sound storeCauses eventCauses causesOf causeOf nearest lookCause look pairsWith clashesWith clashes least firstClash start startTable read readTable write writeTable commit commitTime commitCounter joinTable commitTable copyCards committedUnder judged abort abortTable act step run resultOf cases
+unfolding upFrom any all count filter fold accounts cardAt withCard word withWord withFields newTable hasWrites withSets actions hasLiveChild isRecordOf records walkUp isAtOrBelow hasReadInTime hasEndAlone isSoundAction sound storeCauses eventCauses causesOf causeOf nearest lookCause look pairsWith clashesWith clashes least firstClash start startTable read readTable write writeTable commit commitTime commitCounter joinTable commitTable copyCards committedUnder judged abort abortTable act step run resultOf cases
 cases-hold = refl
 
 -- the example of specs/Example.antt
 pub example-holds : exampleRun ≡ exampleExpected
-unfolding upFrom any all count filter fold accounts cardAt withCard word withWord newTable hasWrites withSets actions hasLiveChild isRecordOf records walkUp isAtOrBelow hasReadInTime hasEndAlone isSoundAction sound storeCauses eventCauses causesOf causeOf nearest pairsWith clashesWith clashes least firstClash start startTable read readTable write writeTable commit commitTime commitCounter joinTable commitTable copyCards committedUnder judged abort abortTable act step run over lay put commitsAt laidAll stepped collectOne collectFrom unknown storeBlock scheduleOf shows settle written ended perform performAll serial example exampleRun exampleExpected
+unfolding upFrom any all count filter fold accounts cardAt withCard word withWord withFields newTable hasWrites withSets actions hasLiveChild isRecordOf records walkUp isAtOrBelow hasReadInTime hasEndAlone isSoundAction sound storeCauses eventCauses causesOf causeOf nearest pairsWith clashesWith clashes least firstClash start startTable read readTable write writeTable commit commitTime commitCounter joinTable commitTable copyCards committedUnder judged abort abortTable act step run over lay put commitsAt laidAll stepped collectOne collectFrom unknown storeBlock scheduleOf shows settle written ended perform performAll serial example exampleRun exampleExpected
 example-holds = refl

@@ -1,10 +1,11 @@
 -- What the functions on rows ask of their callers. Assumes nothing.
-use Prim.Native.Nat.{ℕ, _≤_}
+use Prim.Native.Nat.{ℕ, _+_, _≤_}
 use mathlib.Core.Path.{_≡_}
 use mathlib.Core.Logic.{_≢_}
 use mathlib.Core.List.{List}
 use lib.ListN.{length}
-use Rattle.rules.specs.Table.{tableLength, mostActions, started}
+use Rattle.rules.specs.Card.{accountCount}
+use Rattle.rules.specs.Table.{width, tableLength, mostActions, started}
 
 -- w has a table's length, and n is the number of one of its rows
 pub record HasRow (w : List ℕ) (n : ℕ) : Type 0 where
@@ -19,3 +20,7 @@ pub record Scannable (w : List ℕ) : Type 0 where
 -- two rows are not the same
 abbrev pub AreTwo : ℕ → ℕ → Type 0
 AreTwo n p = n ≢ p
+
+-- a row has one field for each account, from `first` on
+abbrev pub HasAccountFields : ℕ → Type 0
+HasAccountFields first = first + accountCount ≤ width

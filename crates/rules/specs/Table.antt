@@ -138,13 +138,9 @@ hasWritten w n k = not (eqb (writeEntry w n k) 0)
 unfoldable pub hasWrites : List ℕ → ℕ → Bool
 hasWrites w n = any (hasWritten w n) accounts
 
--- both entries of account k given anew
-abbrev pub withEntries : List ℕ → ℕ → ℕ → ℕ → ℕ → List ℕ
-withEntries w n k read write = withWrite (withRead w n k read) n k write
-
 -- both sets of action n given anew: account k's read entry is reads k, its write entry writes k
 unfoldable pub withSets : List ℕ → ℕ → (ℕ → ℕ) → (ℕ → ℕ) → List ℕ
-withSets w n reads writes = fold (λ k now. withEntries now n k (reads k) (writes k)) accounts w
+withSets w n reads writes = withFields (withFields w n readField accounts reads) n writeField accounts writes
 
 -- ---- RULES 1.5: the states
 

@@ -1,66 +1,22 @@
--- `join_sets` meets its contract: the union made from the table at entry is the union made in place (`Joining`), and of that
--- the accounts from `k` on are left to join in the present table, `k` the account at the loop's head. Assumes nothing.
-use Prim.Native.Nat.{_≤_, _-_}
-use native.Mathlib.Omega.{arith}
-use mathlib.Core.Path.{_≡_, refl, sym, _∙_}
-use lib.ListN.{length}
+-- `join_sets` meets its contract: the reads joined, then the writes, are both joined from the table at entry (`Joining`).
+-- Assumes nothing.
 use borrow.Author.Needs.{needs}
-use Rattle.rules.specs.Card.{accounts, accountCount}
-use Rattle.rules.specs.Range.{upFrom, fold}
-use Rattle.rules.specs.Step.{joinTable}
-use Rattle.rules.proofs.Laws.Ranges.{fold-left-next, fold-left-done}
-use Rattle.rows.specs.Join.{joinAccount}
-use Rattle.rows.proofs.Joining.{joined-in-place}
+use Rattle.rows.proofs.Joining.{joined-both}
 use Rattle.rows.proofs.sets.join_sets.Statement.{statement}
 use Rattle.rows.proofs.sets.join_sets.Tie as tie
 
-abbrev Inv-loop : tie.InvT-loop
-Inv-loop table₀ n p k₀ table k =
-    (k ≤ accountCount)
-    × (length table ≡ length table₀)
-    × (joinTable table₀ n p ≡ fold (λ k now. joinAccount now n p k) (upFrom k (accountCount - k)) table)
+join-reads-requires : tie.Need-join-reads-requires
+join-reads-requires c κs = search needs
 
-abbrev μ-loop : tie.MeasureT-loop
-μ-loop table₀ n p k₀ table k = accountCount - k
+join-writes-requires : tie.Need-join-writes-requires
+join-writes-requires c κs = search needs
 
-loop-holds : tie.Need-loop-holds Inv-loop μ-loop
-unfolding accounts
-loop-holds c = (omega arith, refl, joined-in-place _ _ _ (c .before .pre .1 .1))
-
-join-account-requires : tie.Need-join-account-requires Inv-loop μ-loop
-join-account-requires c κs = search needs
-
-add-k : tie.Need-add-k Inv-loop μ-loop
-add-k c = search needs
-
-loop-less : tie.Need-loop-less Inv-loop μ-loop
-loop-less c = omega arith
-
-loop-again : tie.Need-loop-again Inv-loop μ-loop
-loop-again c = (
-  omega arith,
-  search needs,
-  rw (c .before .before .join-account .ensures)
-      (c .before .before .before .before .before .loop .inv .2
-      ∙ fold-left-next _ _ accountCount _ (c .before .before .before .before .loop-test .taken)),
-)
-
-same-length : tie.Need-same-length Inv-loop μ-loop
+same-length : tie.Need-same-length
 same-length c = search needs
 
-returns : tie.Need-returns Inv-loop μ-loop
-returns c = sym (c .before .loop .inv .2 ∙ fold-left-done _ _ accountCount _ (c .loop-test .left))
+returns : tie.Need-returns
+returns c =
+    rw (c .before .before .join-writes .ensures, c .before .before .before .before .before .before .join-reads .ensures) (joined-both _ _ _)
 
 pub join-sets-spec : {M : Type 1} → statement M
-join-sets-spec =
-    tie.close
-    (tie.spec
-    Inv-loop
-    μ-loop
-    loop-holds
-    join-account-requires
-    add-k
-    loop-less
-    loop-again
-    same-length
-    returns)
+join-sets-spec = tie.close (tie.spec join-reads-requires join-writes-requires same-length returns)
