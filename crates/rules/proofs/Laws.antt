@@ -6,6 +6,7 @@ pub mod Puts
 pub mod Words
 pub mod Fields
 pub mod Sets
+pub mod RowPass
 pub mod Cards
 pub mod Bytes
 pub mod CopiedPart

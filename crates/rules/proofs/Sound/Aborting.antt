@@ -13,14 +13,14 @@ use lib.ListN.{length}
 use Rattle.rules.specs.declared.Answer.the-variants.{Aborted}
 use Rattle.rules.specs.Range.{count}
 use Rattle.rules.specs.Card.{accountCount}
-use Rattle.rules.specs.Table.{hasEnd, width, tableLength, live, committed, aborted, word, startedField, started, counterField, counter, parentField, parentOf, stateField, stateOf, withState, endField, readField, readEntry, hasRead, readTime, writeField, isLive, isCommitted, actions}
+use Rattle.rules.specs.Table.{hasEnd, width, live, committed, aborted, word, startedField, started, counterField, counter, parentField, parentOf, stateField, stateOf, endField, readField, readEntry, hasRead, readTime, writeField, isLive, isCommitted, actions}
 use Rattle.rules.specs.Walk.{isAtOrBelow}
 use Rattle.rules.specs.Sound.{hasState, IsStarted, Sound}
 use Rattle.rules.specs.Ledger.{Ledger}
 use Rattle.rules.specs.Step.{isAbortedBy, abortTable, abort}
-use Rattle.rules.proofs.Laws.Tests.{and-left, and-right, and-both, not-both, cond-holds}
-use Rattle.rules.proofs.Laws.Ranges.{count-some, any-at, count-agree, fold-keeps, fold-puts}
-use Rattle.rules.proofs.Laws.Words.{withWord-length, word-same, word-other-row, word-off-field}
+use Rattle.rules.proofs.Laws.Tests.{and-left, and-right, and-both, cond-holds}
+use Rattle.rules.proofs.Laws.Ranges.{count-some, any-at, count-agree}
+use Rattle.rules.proofs.Laws.RowPass.{pass-length, pass-other-field, pass-other-row, pass-field}
 use Rattle.rules.proofs.Sound.TableChanges.{TableChange, writes-agree}
 use Rattle.rules.proofs.Laws.Walking.{parent-known, sound-climbs, atOrBelow-itself, notBelow-parent}
 
@@ -31,57 +31,25 @@ abbrev pub becameAborted : List ℕ → List ℕ → ℕ → Bool
 becameAborted w v m = isLive w m && eqb (stateOf v m) aborted
 
 module _ (w : List ℕ) (n : ℕ) where
-  -- what the abort does for action m
-  mark : ℕ → List ℕ → List ℕ
-  mark m now = cond (isAbortedBy w n m) (withState now m aborted) now
-
-  mark-keeps :
-      (P : List ℕ → Type 0) (m : ℕ) (v : List ℕ) → (isAbortedBy w n m ≡ true → P v → P (withState v m aborted)) → P v → P (mark m v)
-  unfolding mark
-  mark-keeps P m v keeps p = cond-holds P (isAbortedBy w n m) (λ q. keeps q p) (λ q. p)
-
-  -- what each mark keeps, the abort keeps
-  abort-keeps :
-      (P : List ℕ → Type 0) → ((m : ℕ) → IsStarted w m → isAbortedBy w n m ≡ true → (v : List ℕ) → P v → P (withState v m aborted)) →
-      P w → P (abortTable w n)
-  unfolding abortTable actions mark
-  abort-keeps P keeps =
-      fold-keeps P mark 1 (started w) (λ m h v. mark-keeps P m v (λ q. keeps m (omega arith) q v)) w
-
   pub abort-length : length (abortTable w n) ≡ length w
-  abort-length = abort-keeps (λ v. length v ≡ length w) (λ m h q v e. withWord-length v m _ _ ∙ e) refl
+  unfolding abortTable actions
+  abort-length = pass-length (isAbortedBy w n) stateField (omega arith) (λ _. aborted) (started w) w
 
   -- every field but the states
   pub abort-keeps-field : (m g : ℕ) → g < width → g ≢ stateField → word (abortTable w n) m g ≡ word w m g
-  abort-keeps-field m g hg ne =
-      abort-keeps (λ v. word v m g ≡ word w m g) (λ x h q v e. word-off-field v x m stateField g _ (omega arith) hg ne ∙ e) refl
+  unfolding abortTable actions
+  abort-keeps-field = pass-other-field (isAbortedBy w n) stateField (omega arith) (λ _. aborted) (started w) w
 
   -- every row that is not reached: the head's, those above the last start, and those of the other actions
   pub abort-keeps-row :
       (m g : ℕ) → g < width → (IsStarted w m → isAbortedBy w n m ≡ true → ⊥) → word (abortTable w n) m g ≡ word w m g
-  abort-keeps-row m g hg unreached =
-      abort-keeps (λ v. word v m g ≡ word w m g)
-      (λ x h q v e. word-other-row v x m stateField g _ (omega arith) hg (λ same. unreached (rw same h) (rw same q)) ∙ e)
-      refl
+  unfolding abortTable actions
+  abort-keeps-row = pass-other-row (isAbortedBy w n) stateField (omega arith) (λ _. aborted) (started w) w
 
   module _ (s : Sound w) where
-    -- m's own mark makes it so, and no other mark touches its row
-    reached-aborted : (m : ℕ) → IsStarted w m → isAbortedBy w n m ≡ true → stateOf (abortTable w n) m ≡ aborted
-    unfolding abortTable actions mark
-    reached-aborted m h q =
-        fold-puts (λ v. length v ≡ tableLength) (λ v. stateOf v m) aborted mark 1 (started w) m
-        (λ x r v. mark-keeps (λ u. length u ≡ tableLength) x v (λ _ e. withWord-length v x _ _ ∙ e))
-        (λ v e. rw q (word-same v m stateField _ e (omega arith) (omega arith)))
-        (λ x r ne v.
-        mark-keeps (λ u. stateOf u m ≡ stateOf v m) x v
-        (λ _ e. word-other-row v x m stateField stateField _ (omega arith) (omega arith) (λ same. ne (sym same))) refl)
-        (omega arith) w (s .long)
-
     pub abort-state : (m : ℕ) → IsStarted w m → stateOf (abortTable w n) m ≡ cond (isAbortedBy w n m) aborted (stateOf w m)
-    abort-state m h =
-        cond-holds (λ x. stateOf (abortTable w n) m ≡ x) (isAbortedBy w n m)
-        (reached-aborted m h)
-        (λ q. abort-keeps-row m stateField (omega arith) (λ _ r. not-both r q))
+    unfolding abortTable actions
+    abort-state = pass-field (isAbortedBy w n) stateField (omega arith) (λ _. aborted) (started w) w (s .long) (s .few)
 
     -- an action is live afterwards where it was and is not at or below n
     pub abort-live : (m : ℕ) → IsStarted w m → isLive (abortTable w n) m ≡ (isLive w m && not (isAtOrBelow w n m))
