@@ -1,3 +1,4 @@
 -- The clash list, and the search that finds its first clash.
 pub mod Clashes
+pub mod Records
 pub mod Searching

@@ -159,6 +159,39 @@ count-one-more f g a (suc n) x h p q e =
     cond-suc true m = refl
     cond-suc false m = refl
 
+-- g holds only where f does: it counts no more
+count-no-more :
+    (f g : ℕ → Bool) (a n : ℕ) → ((y : ℕ) → Within a n y → g y ≡ true → f y ≡ true) → count g (upFrom a n) ≤ count f (upFrom a n)
+unfolding count upFrom
+count-no-more f g a zero only = omega arith
+count-no-more f g a (suc n) only =
+    one-more (g a) (f a) (only a (first-within a n)) (count-no-more f g (suc a) n (λ y r. only y (rest-within a n y r)))
+  where
+    one-more : (b c : Bool) {k m : ℕ} → (b ≡ true → c ≡ true) → k ≤ m → cond b (suc k) k ≤ cond c (suc m) m
+    one-more true true both h = omega arith
+    one-more true false both h = absurd (false≢true (both refl))
+    one-more false true both h = omega arith
+    one-more false false both h = h
+
+-- .. and fewer where it leaves out one of which f holds
+pub count-fewer :
+    (f g : ℕ → Bool) (a n x : ℕ) → Within a n x → f x ≡ true → g x ≡ false →
+    ((y : ℕ) → Within a n y → g y ≡ true → f y ≡ true) → count g (upFrom a n) < count f (upFrom a n)
+unfolding count upFrom
+count-fewer f g a zero x h p q only = absurd (omega (arith, add-zero a))
+count-fewer f g a (suc n) x h p q only =
+    ⊎-elim
+    (λ e. rw (rw e at p, rw e at q) (omega (arith, count-no-more f g (suc a) n (λ y r. only y (rest-within a n y r)))))
+    (λ r.
+    one-more (g a) (f a) (only a (first-within a n)) (count-fewer f g (suc a) n x r p q (λ y s. only y (rest-within a n y s))))
+    (first-or-rest a n x h)
+  where
+    one-more : (b c : Bool) {k m : ℕ} → (b ≡ true → c ≡ true) → k < m → cond b (suc k) k < cond c (suc m) m
+    one-more true true both h = omega arith
+    one-more true false both h = absurd (false≢true (both refl))
+    one-more false true both h = omega arith
+    one-more false false both h = h
+
 -- where f holds of one at least, the count is at least 1
 pub count-some : (f : ℕ → Bool) (l : List ℕ) → any f l ≡ true → 1 ≤ count f l
 unfolding any count

@@ -13,7 +13,7 @@ use Rattle.rules.specs.Card.{accountCount, accounts}
 use Rattle.rules.specs.Table.{hasEnd, tableLength, mostActions, started, counter, parentOf, endTime, hasRead, readTime, isLive, isCommitted, actions}
 use Rattle.rules.specs.Sound.{hasState, hasParentBelow, hasParentAlive, hasReadInTime, hasEndInTime, sharesEndTime, hasEndAlone, isSoundAction, sound, IsStarted, Sound}
 use Rattle.rules.proofs.Laws.Tests.{and-left, and-right, and-both, or-cases, or-inl, or-inr, test, implied, implies, not-both, false-of-not-true}
-use Rattle.rules.proofs.Laws.Ranges.{Within, all-at, all-of}
+use Rattle.rules.proofs.Laws.Ranges.{Within, all-at, all-of, count-at-most}
 
 -- the started actions are the numbers of the run that the scans go over
 started-within : (w : List ℕ) (n : ℕ) → IsStarted w n → Within 1 (started w) n
@@ -197,3 +197,9 @@ module _ (w : List ℕ) where
       and-both
       (and-both (and-both (eq-eqb _ _ (s .long)) (le-leb _ _ (s .few))) (le-leb _ _ (s .counted)))
       (started-all w _ (λ n h. action-tested w n (tested-action s n h)))
+
+-- ---- RULES 7.3: the counter is no higher than there can be actions
+
+pub counter-at-most : (w : List ℕ) → Sound w → counter w ≤ mostActions
+unfolding actions
+counter-at-most w s = omega (arith, s .counted, count-at-most (isCommitted w) 1 (started w), s .few)

@@ -6,7 +6,7 @@ use borrow.Author.Needs.{needs}
 use borrow.Author.Tests.{ne-eqb}
 use Rattle.rules.specs.Card.{basePlace, shadowPlace}
 use Rattle.rules.specs.Step.{commitTable, committedUnder}
-use Rattle.rules.proofs.Clash.Searching.{counter-at-most}
+use Rattle.rules.proofs.Sound.Soundness.{counter-at-most}
 use Rattle.commits.proofs.commit.pass.Statement.{statement}
 use Rattle.commits.proofs.commit.pass.Tie as tie
 use Rattle.commits.proofs.CommitCopies.{own-copies}

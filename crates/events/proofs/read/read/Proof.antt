@@ -4,7 +4,7 @@ use native.Mathlib.Omega.{arith}
 use borrow.Author.Needs.{needs}
 use borrow.Author.Tests.{ne-eqb}
 use Rattle.rules.specs.Step.{readTable}
-use Rattle.rules.proofs.Clash.Searching.{counter-at-most}
+use Rattle.rules.proofs.Sound.Soundness.{counter-at-most}
 use Rattle.events.proofs.read.read.Statement.{statement}
 use Rattle.events.proofs.read.read.Tie as tie
 

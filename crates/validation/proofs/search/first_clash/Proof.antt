@@ -10,7 +10,8 @@ use Rattle.rules.specs.Table.{counter, parentOf, endTime, records}
 use Rattle.rules.specs.Clash.{firstClash}
 use Rattle.rules.specs.Sound.{IsStarted}
 use Rattle.rules.specs.Search.{nextAfter}
-use Rattle.rules.proofs.Clash.Searching.{searchAfter, search-none, search-next, next-started, search-after-finds}
+use Rattle.rules.proofs.Clash.Records.{next-started}
+use Rattle.rules.proofs.Clash.Searching.{searchAfter, sound-searchable, search-none, search-next, search-after-finds}
 use Rattle.validation.proofs.ClashSearch.{searchFrom, accounts-here, accounts-next, accounts-done, first-reads}
 use Rattle.validation.proofs.search.first_clash.Statement.{statement}
 use Rattle.validation.proofs.search.first_clash.Tie as tie
@@ -44,7 +45,7 @@ next-found :
     IsStarted table m × (c .before .before .records .last < endTime table m) × (endTime table m ≤ counter table)
 next-found c =
     let start = c .before .before .before .before .before .before in
-    next-started _ (start .args .n) (start .pre .0) _ _ _ (is-next (c .before)) (c .if1 .left)
+    next-started (start .pre .0) _ _ _ (is-next (c .before)) (c .if1 .left)
 
 parent-requires : tie.Need-parent-requires Inv-accounts μ-accounts Inv-records μ-records
 parent-requires c κs = search needs
@@ -54,7 +55,7 @@ first-read-requires c κs = search needs
 
 records-holds : tie.Need-records-holds Inv-accounts μ-accounts Inv-records μ-records
 records-holds c =
-    rw (c .first-read .ensures) (sym (search-after-finds _ _ (c .before .before .before .pre .0) _ (first-reads _ _)))
+    rw (c .first-read .ensures) (sym (search-after-finds _ _ (sound-searchable (c .before .before .before .pre .0) _) _ (first-reads _ _)))
 
 next-record-requires : tie.Need-next-record-requires Inv-accounts μ-accounts Inv-records μ-records
 next-record-requires c κs = search needs
@@ -69,7 +70,7 @@ accounts-holds c =
     rw (c .end-time .ensures) (
       omega arith,
       c .before .before .before .records .inv
-          ∙ search-next _ _ (start .pre .0) _ _ (is-next (c .before .before)) (c .before .if1 .left),
+          ∙ search-next _ _ (sound-searchable (start .pre .0) _) _ _ (is-next (c .before .before)) (c .before .if1 .left),
     )
 
 records-less : tie.Need-records-less Inv-accounts μ-accounts Inv-records μ-records
@@ -97,7 +98,7 @@ accounts-again c = (
 returns : tie.Need-returns Inv-accounts μ-accounts Inv-records μ-records
 returns c =
     let start = c .before .before .before .before .before .before in
-    sym (c .before .before .records .inv ∙ search-none _ _ (start .pre .0) _ _ (is-next (c .before)) (c .if1 .taken))
+    sym (c .before .before .records .inv ∙ search-none _ _ (sound-searchable (start .pre .0) _) _ _ (is-next (c .before)) (c .if1 .taken))
 
 returns-2 : tie.Need-returns-2 Inv-accounts μ-accounts Inv-records μ-records
 returns-2 c =
