@@ -48,7 +48,8 @@ step-keeps-proper s e proper =
       shadowFits = lengths .ofShadow ∙ proper .shadowFits;
     }
 
-module _ (J : JudgingRule) (got opening : ℕ → List ℕ) (i : ℕ) (e : Event) {s : Ledger} {c : Known} (kept : Kept J got opening s c) where
+module _
+    (J : JudgingRule) (got opening : ℕ → List ℕ) (i : ℕ) (e : Event) {s : Ledger} {c : Known} (kept : Kept J got opening s c) where
   -- what is kept is kept after an outcome that is proper and after which a look shows what the place was given
   KeptAfter : Outcome → Type 0
   KeptAfter o =
@@ -69,7 +70,9 @@ module _ (J : JudgingRule) (got opening : ℕ → List ℕ) (i : ℕ) (e : Event
     writes is proper′ given =
         write-kept J got opening kept i (e .number) (e .account) (write-permitted a is) (e .card) (a .cardFits is) proper′
 
-    judges : Committable (s .table) (e .number) → (f : Found) → firstClash (s .table) (e .number) ≡ f → KeptAfter (judged s (e .number) f)
+    judges :
+        Committable (s .table) (e .number) → (f : Found) → firstClash (s .table) (e .number) ≡ f →
+        KeptAfter (judged s (e .number) f)
     unfolding KeptAfter judged collectOne commitsAt stepped laidAll
     judges j Nothing clear proper′ given =
         pass-kept J got opening kept i (e .number) j proper′ (J .passes s (kept .proper) (e .number) j clear)

@@ -29,7 +29,8 @@ use Rattle.rules.proofs.Laws.Permitted.{Touchable, no-live-child}
 use Rattle.rules.proofs.Stores.Copies.{shadow-apart}
 use Rattle.rules.proofs.Demand.Views.{was-alive, same-parent, effect-kept, shadow-fits, RowKept, RecordsKept, stale-stays}
 
-module _ (s : Ledger) (proper : Proper s) (n k : ℕ) (permitted : Touchable (s .table) n k) (card : List ℕ) (whole : IsCard card) where
+module _
+    (s : Ledger) (proper : Proper s) (n k : ℕ) (permitted : Touchable (s .table) n k) (card : List ℕ) (whole : IsCard card) where
   open Touchable permitted using (own, alive, childless, account)
 
   -- the state and the table after the write

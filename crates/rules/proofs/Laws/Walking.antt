@@ -164,4 +164,5 @@ module _ (w : List ℕ) where
       (a m : ℕ) → Climbs w m → isAtOrBelow v a m ≡ isAtOrBelow w a m
   unfolding isAtOrBelow
   atOrBelow-agree v parents a m up =
-      walk-agree _ _ _ _ _ (λ _. Unit {0}) (λ n _ _. tt) (λ n _ _. parents n) (λ n _ _ above. refl) mostActions mostActions m tt up up
+      walk-agree _ _ _ _ _ (λ _. Unit {0}) (λ n _ _. tt) (λ n _ _. parents n) (λ n _ _ above. refl)
+      mostActions mostActions m tt up up

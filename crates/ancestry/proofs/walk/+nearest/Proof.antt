@@ -40,7 +40,8 @@ returns-2 : (t : ℕ) → nearest-lts.Need-returns-2 (calls t) (nearest-at t) ne
 returns-2 t c =
     let start = c .before .before .before .before in
     rw (
-      nearest-step _ (start .args .n) (start .args .k) (λ z. omega arith) (sound-climbs (start .pre .1 .sound) (start .args .n) (omega arith)),
+      nearest-step _ (start .args .n) (start .args .k) (λ z. omega arith)
+          (sound-climbs (start .pre .1 .sound) (start .args .n) (omega arith)),
       sym (c .before .has-written .ensures) ∙ c .if2 .taken,
     )
 
@@ -57,7 +58,8 @@ returns-3 : (t : ℕ) → nearest-lts.Need-returns-3 (calls t) (nearest-at t) ne
 returns-3 t c =
     let start = c .before .before .before .before .before .before in
     rw (
-      nearest-step _ (start .args .n) (start .args .k) (λ z. omega arith) (sound-climbs (start .pre .1 .sound) (start .args .n) (omega arith)),
+      nearest-step _ (start .args .n) (start .args .k) (λ z. omega arith)
+          (sound-climbs (start .pre .1 .sound) (start .args .n) (omega arith)),
       sym (c .before .before .before .has-written .ensures) ∙ c .before .before .if2 .left,
       ← c .before .parent .ensures,
     )

@@ -28,7 +28,11 @@ abbrev μ-loop : tie.MeasureT-loop
 
 loop-holds : tie.Need-loop-holds Inv-loop μ-loop
 unfolding accounts
-loop-holds c = (omega arith, refl, joined-in-place _ _ _ joinedRead readField 0 accountCount (c .before .pre .1 .1) (λ k h. omega arith) (λ k j h kj z. omega arith))
+loop-holds c = (
+  omega arith,
+  refl,
+  joined-in-place _ _ _ joinedRead readField 0 accountCount (c .before .pre .1 .1) (λ k h. omega arith) (λ k j h kj z. omega arith),
+)
 
 join-read-requires : tie.Need-join-read-requires Inv-loop μ-loop
 join-read-requires c κs = search needs

@@ -16,7 +16,8 @@ same-length c = search needs
 
 returns : tie.Need-returns
 returns c =
-    rw (c .before .before .join-writes .ensures, c .before .before .before .before .before .before .join-reads .ensures) (joined-both _ _ _)
+    rw (c .before .before .join-writes .ensures, c .before .before .before .before .before .before .join-reads .ensures)
+    (joined-both _ _ _)
 
 pub join-sets-spec : {M : Type 1} → statement M
 join-sets-spec = tie.close (tie.spec join-reads-requires join-writes-requires same-length returns)

@@ -27,7 +27,11 @@ abbrev μ-loop : tie.MeasureT-loop
 
 loop-holds : tie.Need-loop-holds Inv-loop μ-loop
 unfolding accounts
-loop-holds c = (omega arith, refl, joined-in-place _ _ _ joinedWrite writeField 0 accountCount (c .before .pre .1 .1) (λ k h. omega arith) (λ k j h kj z. omega arith))
+loop-holds c = (
+  omega arith,
+  refl,
+  joined-in-place _ _ _ joinedWrite writeField 0 accountCount (c .before .pre .1 .1) (λ k h. omega arith) (λ k j h kj z. omega arith),
+)
 
 join-write-requires : tie.Need-join-write-requires Inv-loop μ-loop
 join-write-requires c κs = search needs
