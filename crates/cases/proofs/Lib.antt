@@ -1,2 +1,2 @@
--- Both hold.
+-- All of them hold.
 pub mod Cases

@@ -1,1 +1,1 @@
-// The worked cases of RULES 12 and an example of a serial run, proved of the definitions: specs/ has them, proofs/ the theorems.
+// The worked cases of RULES 12 and examples of a serial run and of R, proved of the definitions: specs/ has them, proofs/ the theorems.

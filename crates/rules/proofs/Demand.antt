@@ -1,5 +1,6 @@
--- The engine's events as the steps of which demand 3's proof speaks: what it sees of them, why a commit may pass, and
--- demand 3 itself.
+-- The engine's events as the steps of which demand 3's proof speaks: what it sees of them, why a commit may pass,
+-- demand 3 itself, and R in the words of its rule.
+pub mod Proper
 pub mod Abstraction
 pub mod AbstractionLaws
 pub mod Views
@@ -16,3 +17,4 @@ pub mod JudgingRule
 pub mod Backward
 pub mod Collected
 pub mod Theorem
+pub mod PlainR

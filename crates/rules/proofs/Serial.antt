@@ -1,5 +1,6 @@
 -- The proof of demand 3, in the order in which it is read. Up to Stale it knows nothing of tables, times or bytes; from
--- Settling on it is about the machine that takes the serial run's steps, and from Acts on about which steps these are.
+-- Settling on it is about the machine that takes the serial run's steps, from Acts on about which steps these are, and from
+-- Lineages on about R in the words of its rule.
 pub mod Values
 pub mod Blocks
 pub mod AbstractState
@@ -16,3 +17,6 @@ pub mod Acts
 pub mod Held
 pub mod Exact
 pub mod Order
+pub mod Lineages
+pub mod Agreement
+pub mod Following

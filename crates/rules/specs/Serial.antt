@@ -1,4 +1,4 @@
--- RULES 6: the serial run of R, and demand 3, in the order in which one would explain them.
+-- RULES 6: the serial run of R, demand 3, and R in the words of its rule, in the order in which one would explain them.
 pub mod Effect
 pub mod Block
 pub mod Told
@@ -7,3 +7,4 @@ pub mod Schedule
 pub mod Machine
 pub mod Reach
 pub mod Demand
+pub mod Starts

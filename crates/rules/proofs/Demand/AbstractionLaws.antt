@@ -8,11 +8,10 @@ use mathlib.Core.Bool.{Bool, true, false, cond, _&&_}
 use mathlib.Core.Option.{none, some}
 use mathlib.Core.List.{List}
 use lib.Dec.{leb, ltb}
-use lib.ListN.{length}
 use borrow.Author.Tests.{ltb-true, leb-true, lt-ltb, le-ltb, le-leb, ne-eqb}
-use Rattle.rules.specs.Card.{accountCount, baseLength, shadowLength, basePlace, shadowPlace, cardAt}
-use Rattle.rules.specs.Table.{started, parentOf, hasRead, hasWritten, isLive}
-use Rattle.rules.specs.Sound.{IsStarted, Sound}
+use Rattle.rules.specs.Card.{accountCount, basePlace, shadowPlace, cardAt}
+use Rattle.rules.specs.Table.{newTable, word, started, parentOf, hasRead, hasWritten, isLive}
+use Rattle.rules.specs.Sound.{IsStarted}
 use Rattle.rules.specs.Nearest.{nearest}
 use Rattle.rules.specs.Ledger.{Ledger}
 use Rattle.rules.specs.Serial.Effect.{over}
@@ -20,13 +19,8 @@ use Rattle.rules.proofs.Laws.Tests.{and-left, and-right, and-both}
 use Rattle.rules.proofs.Laws.Walking.{parent-known, depth, depth-step, sound-climbs, nearest-store, nearest-step}
 use Rattle.rules.proofs.Serial.Values.{over-none}
 use Rattle.rules.proofs.Serial.AbstractState.{Tree}
+use Rattle.rules.proofs.Demand.Proper.{Proper}
 use Rattle.rules.proofs.Demand.Abstraction.{isAlive, cardOf, effectOf, viewOf, hasReadAccount, abstraction}
-
--- a state in which no event is refused for its table or its stores
-pub record Proper (s : Ledger) : Type 0 where
-  pub sound : Sound (s .table)
-  pub baseFits : length (s .base) ≡ baseLength
-  pub shadowFits : length (s .shadow) ≡ shadowLength
 
 -- ---- who is live, and who has read what
 
@@ -44,6 +38,11 @@ module _ (w : List ℕ) (X : ℕ) where
   pub live-alive : IsStarted w X → isLive w X ≡ true → isAlive w X ≡ true
   unfolding isAlive
   live-alive begun = and-both (and-both (le-leb 1 X (begun .0)) (le-leb X (started w) (begun .1)))
+
+-- nobody has started in a new table
+pub new-nobody-alive : (X : ℕ) → isAlive newTable X ≡ true → ⊥
+unfolding newTable word
+new-nobody-alive X l = omega (arith, alive-started newTable X l)
 
 module _ (w : List ℕ) (X k : ℕ) where
   pub read-account : hasReadAccount w X k ≡ true → k < accountCount

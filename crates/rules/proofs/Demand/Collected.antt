@@ -27,7 +27,8 @@ use Rattle.rules.proofs.Serial.Settling.{whole-card}
 use Rattle.rules.proofs.Serial.Running.{Whole, OnlyChildren}
 use Rattle.rules.proofs.Sound.Starting.{start-parent}
 use Rattle.rules.proofs.Demand.Abstraction.{abstraction}
-use Rattle.rules.proofs.Demand.AbstractionLaws.{Proper, live-alive}
+use Rattle.rules.proofs.Demand.Proper.{Proper}
+use Rattle.rules.proofs.Demand.AbstractionLaws.{live-alive}
 use Rattle.rules.proofs.Demand.Starts.{start-starts}
 use Rattle.rules.proofs.Demand.Reads.{lookedIn, read-reads, read-shows}
 use Rattle.rules.proofs.Demand.Writes.{abstract-write}

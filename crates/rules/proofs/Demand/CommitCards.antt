@@ -21,7 +21,8 @@ use Rattle.rules.proofs.Sound.Committing.{commit-keeps-row, commit-writ
 use Rattle.rules.proofs.Laws.Permitted.{Committable}
 use Rattle.rules.proofs.Stores.Copies.{Line, base-line, shadow-line, copyCards-length, copyCards-card, copyCards-apart, shadow-apart}
 use Rattle.rules.proofs.Demand.Abstraction.{cardOf, effectOf}
-use Rattle.rules.proofs.Demand.AbstractionLaws.{Proper, effect-written, effect-unwritten, effect-no-account, by-account}
+use Rattle.rules.proofs.Demand.Proper.{Proper}
+use Rattle.rules.proofs.Demand.AbstractionLaws.{effect-written, effect-unwritten, effect-no-account, by-account}
 use Rattle.rules.proofs.Laws.Bytes.{cardAt-beyond}
 use Rattle.rules.proofs.Demand.Views.{effect-kept, shadow-fits}
 use Rattle.rules.proofs.Demand.CommitTable.{number-few, parent-few}

@@ -13,7 +13,8 @@ use Rattle.rules.proofs.Laws.Permitted.{Committable}
 use Rattle.rules.proofs.Serial.Change.{Change}
 use Rattle.rules.proofs.Serial.Events.{Commit}
 use Rattle.rules.proofs.Demand.Abstraction.{effectOf, abstraction}
-use Rattle.rules.proofs.Demand.AbstractionLaws.{Proper, alive-started, live-alive, read-account, account-read, abstract-tree}
+use Rattle.rules.proofs.Demand.Proper.{Proper}
+use Rattle.rules.proofs.Demand.AbstractionLaws.{alive-started, live-alive, read-account, account-read, abstract-tree}
 use Rattle.rules.proofs.Demand.Views.{was-alive, same-parent}
 use Rattle.rules.proofs.Demand.CommitTable.{entry-has-read, table-change, still-alive-other, read-joined, read-kept}
 use Rattle.rules.proofs.Demand.CommitCards.{commit-base-length, commit-shadow-length, commit-base-kept, commit-base-laid, commit-effect-kept, commit-effect-laid}

@@ -24,7 +24,8 @@ use Rattle.rules.proofs.Serial.AbstractState.{HasRead}
 use Rattle.rules.proofs.Serial.Change.{Stays}
 use Rattle.rules.proofs.Serial.Stale.{AtCommit}
 use Rattle.rules.proofs.Demand.Abstraction.{effectOf, abstraction, Stale}
-use Rattle.rules.proofs.Demand.AbstractionLaws.{Proper, alive-started, alive-live, read-account, read-entered, effect-unwritten, effect-no-account}
+use Rattle.rules.proofs.Demand.Proper.{Proper}
+use Rattle.rules.proofs.Demand.AbstractionLaws.{alive-started, alive-live, read-account, read-entered, effect-unwritten, effect-no-account}
 use Rattle.rules.proofs.Demand.Views.{RowKept, RecordsKept, stale-stays}
 use Rattle.rules.proofs.Demand.CommitTable.{NoLater, table-change, number-few, parent-other, now-committed, read-joined, read-kept}
 use Rattle.rules.proofs.Demand.CommitCards.{by-write-set}

@@ -20,7 +20,8 @@ use Rattle.rules.proofs.Sound.TableChanges.{TableChange, live-uncommitt
 use Rattle.rules.proofs.Sound.Committing.{commit-keeps-row, commit-state, commit-read}
 use Rattle.rules.proofs.Sound.Judging.{commit-change}
 use Rattle.rules.proofs.Demand.Abstraction.{isAlive, hasReadAccount}
-use Rattle.rules.proofs.Demand.AbstractionLaws.{Proper, alive-started, alive-live, read-account, read-entered}
+use Rattle.rules.proofs.Demand.Proper.{Proper}
+use Rattle.rules.proofs.Demand.AbstractionLaws.{alive-started, alive-live, read-account, read-entered}
 
 -- ---- read entries
 

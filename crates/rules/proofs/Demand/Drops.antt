@@ -18,7 +18,7 @@ use Rattle.rules.proofs.Sound.Aborting.{abort-keeps-field, abort-keeps-
 use Rattle.rules.proofs.Serial.Events.{Drop}
 use Rattle.rules.proofs.Serial.Stale.{Old}
 use Rattle.rules.proofs.Demand.Abstraction.{abstraction, Stale}
-use Rattle.rules.proofs.Demand.AbstractionLaws.{Proper}
+use Rattle.rules.proofs.Demand.Proper.{Proper}
 use Rattle.rules.proofs.Demand.Views.{RecordsKept, Keeps, keeps-still, keeps-old, was-alive, change-keeps-proper}
 
 -- ---- a change of states alone, and of no committed action's

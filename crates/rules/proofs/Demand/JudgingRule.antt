@@ -12,7 +12,7 @@ use Rattle.rules.specs.Step.{start, read, write, committedUnder, abort}
 use Rattle.rules.proofs.Laws.Permitted.{Startable, Touchable, Committable}
 use Rattle.rules.proofs.Serial.Rule.{Rule}
 use Rattle.rules.proofs.Demand.Abstraction.{abstraction}
-use Rattle.rules.proofs.Demand.AbstractionLaws.{Proper}
+use Rattle.rules.proofs.Demand.Proper.{Proper}
 
 pub record JudgingRule : Type 1 where
   pub rule : Rule abstraction

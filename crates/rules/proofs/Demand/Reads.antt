@@ -29,7 +29,8 @@ use Rattle.rules.proofs.Stores.Looking.{look-refused-as-read, look-give
 use Rattle.rules.proofs.Serial.Events.{Read}
 use Rattle.rules.proofs.Serial.Stale.{Old}
 use Rattle.rules.proofs.Demand.Abstraction.{cardOf, viewOf, abstraction, Stale}
-use Rattle.rules.proofs.Demand.AbstractionLaws.{Proper, alive-started, live-alive, account-read, view-account}
+use Rattle.rules.proofs.Demand.Proper.{Proper}
+use Rattle.rules.proofs.Demand.AbstractionLaws.{alive-started, live-alive, account-read, view-account}
 use Rattle.rules.proofs.Demand.Views.{RecordsKept, Keeps, keeps-still, keeps-old, was-alive, change-keeps-proper}
 
 -- ---- a look shows the view

@@ -17,7 +17,8 @@ use Rattle.rules.proofs.Sound.Starting.{start-keeps-row, start-started,
 use Rattle.rules.proofs.Serial.Events.{Start}
 use Rattle.rules.proofs.Serial.Stale.{Old}
 use Rattle.rules.proofs.Demand.Abstraction.{isAlive, effectOf, abstraction, Stale}
-use Rattle.rules.proofs.Demand.AbstractionLaws.{Proper, alive-started, alive-live, live-alive, effect-unwritten, effect-no-account, by-account}
+use Rattle.rules.proofs.Demand.Proper.{Proper}
+use Rattle.rules.proofs.Demand.AbstractionLaws.{alive-started, alive-live, live-alive, effect-unwritten, effect-no-account, by-account}
 use Rattle.rules.proofs.Demand.Views.{RowKept, RecordsKept, Keeps, keeps-still, keeps-old}
 
 module _ (s : Ledger) (proper : Proper s) (p : ℕ) (permitted : Startable (s .table) p) where

@@ -2,14 +2,11 @@
 -- statement of specs/Serial/Demand.antt. Assumes nothing.
 use Prim.Native.Nat.{ℕ, suc, _+_}
 use native.Mathlib.Nat.{zero-add, add-zero, add-suc, suc-add}
-use native.Mathlib.Omega.{arith}
 use mathlib.Core.Path.{_≡_, refl, sym, ap, _∙_}
 use mathlib.Core.Bool.{true}
 use mathlib.Core.List.{List, [], _∷_}
 use lib.ListN.{length}
 use Rattle.rules.specs.Card.{baseLength, shadowLength, basePlace, cardAt}
-use Rattle.rules.specs.Table.{newTable, word}
-use Rattle.rules.specs.Sound.{IsStarted}
 use Rattle.rules.specs.Event.{Event, isStart, isRead, isWrite, isCommit}
 use Rattle.rules.specs.declared.Found.{Found}
 use Rattle.rules.specs.declared.Found.the-variants.{Nothing, At}
@@ -24,13 +21,12 @@ use Rattle.rules.specs.Serial.Demand.{cardGiven, newOver, answersTo, Dem
 use Rattle.rules.proofs.Laws.Bytes.{store-by-cards}
 use Rattle.rules.proofs.Laws.EventCases.{AllowedIn, step-by-cause, act-by-kind}
 use Rattle.rules.proofs.Laws.Permitted.{Committable, start-permitted, read-permitted, write-permitted, commit-permitted}
-use Rattle.rules.proofs.Sound.Kept.{new-sound, step-keeps-sound}
-use Rattle.rules.proofs.Stores.Untouched.{lengths-kept}
 use Rattle.rules.proofs.Serial.Invariant.{inv-opening}
 use Rattle.rules.proofs.Serial.Running.{Whole, OnlyChildren, SerialRun, block-runs}
 use Rattle.rules.proofs.Serial.Exact.{exact-acts}
 use Rattle.rules.proofs.Serial.Order.{in-order}
-use Rattle.rules.proofs.Demand.AbstractionLaws.{Proper, alive-started, card-of-store}
+use Rattle.rules.proofs.Demand.Proper.{Proper, new-proper, step-keeps-proper}
+use Rattle.rules.proofs.Demand.AbstractionLaws.{new-nobody-alive, card-of-store}
 use Rattle.rules.proofs.Demand.Reads.{lookedIn}
 use Rattle.rules.proofs.Demand.Drops.{abort-drops, fail-drops}
 use Rattle.rules.proofs.Demand.JudgingRule.{JudgingRule}
@@ -38,15 +34,6 @@ use Rattle.rules.proofs.Demand.Backward.{backward}
 use Rattle.rules.proofs.Demand.Collected.{Kept, drop-kept, start-kept, read-kept, write-kept, pass-kept}
 
 -- ---- one event
-
-step-keeps-proper : (s : Ledger) (e : Event) → Proper s → Proper (step s e .after)
-step-keeps-proper s e proper =
-    let lengths = lengths-kept s e in
-    record {
-      sound = step-keeps-sound s e (proper .sound);
-      baseFits = lengths .ofBase ∙ proper .baseFits;
-      shadowFits = lengths .ofShadow ∙ proper .shadowFits;
-    }
 
 module _
     (J : JudgingRule) (got opening : ℕ → List ℕ) (i : ℕ) (e : Event) {s : Ledger} {c : Known} (kept : Kept J got opening s c) where
@@ -123,11 +110,6 @@ given-shows got i s (e ∷ es) same = (
 
 -- ---- demand 3, under any judging rule
 
--- nobody has started in a new table
-new-empty : (n : ℕ) → IsStarted newTable n → ⊥
-unfolding newTable word
-new-empty n h = omega arith
-
 module _ (J : JudgingRule) (base shadow : List ℕ) (baseFits : length base ≡ baseLength) (shadowFits : length shadow ≡ shadowLength) where
   abbrev openingCards : ℕ → List ℕ
   openingCards k = cardAt base (basePlace k)
@@ -136,9 +118,9 @@ module _ (J : JudgingRule) (base shadow : List ℕ) (baseFits : length base ≡ 
   unfolding unknown Whole OnlyChildren
   kept-at-first got =
       record {
-        proper = record { sound = new-sound; baseFits = baseFits; shadowFits = shadowFits };
-        holds = inv-opening (λ X l. new-empty X (alive-started newTable X l)) (card-of-store (newOver base shadow)) refl;
-        parents = λ X l. absurd (new-empty X (alive-started newTable X l));
+        proper = new-proper base shadow baseFits shadowFits;
+        holds = inv-opening new-nobody-alive (card-of-store (newOver base shadow)) refl;
+        parents = λ X l. absurd (new-nobody-alive X l);
         whole = λ n. tt;
         top = tt;
       }

@@ -17,7 +17,8 @@ use Rattle.rules.proofs.Serial.Stale.{Old}
 use Rattle.rules.proofs.Laws.Cards.{Fits}
 use Rattle.rules.proofs.Stores.Copies.{shadow-line, line-fits}
 use Rattle.rules.proofs.Demand.Abstraction.{isAlive, effectOf, hasReadAccount, abstraction, Stale}
-use Rattle.rules.proofs.Demand.AbstractionLaws.{Proper, alive-started, alive-live, live-alive, read-account, read-entered, account-read, effect-account, effect-no-account, card-of-store, by-account, abstract-tree}
+use Rattle.rules.proofs.Demand.Proper.{Proper}
+use Rattle.rules.proofs.Demand.AbstractionLaws.{alive-started, alive-live, live-alive, read-account, read-entered, account-read, effect-account, effect-no-account, card-of-store, by-account, abstract-tree}
 
 -- ---- effects
 

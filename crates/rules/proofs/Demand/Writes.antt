@@ -24,7 +24,8 @@ use Rattle.rules.proofs.Serial.Change as serial
 use Rattle.rules.proofs.Serial.Events.{Write}
 use Rattle.rules.proofs.Serial.Stale.{Old}
 use Rattle.rules.proofs.Demand.Abstraction.{isAlive, effectOf, hasReadAccount, abstraction, Stale}
-use Rattle.rules.proofs.Demand.AbstractionLaws.{Proper, alive-started, alive-live, live-alive, read-account, read-entered, account-read, effect-written, card-of-store, abstract-tree}
+use Rattle.rules.proofs.Demand.Proper.{Proper}
+use Rattle.rules.proofs.Demand.AbstractionLaws.{alive-started, alive-live, live-alive, read-account, read-entered, account-read, effect-written, card-of-store, abstract-tree}
 use Rattle.rules.proofs.Laws.Permitted.{Touchable, no-live-child}
 use Rattle.rules.proofs.Stores.Copies.{shadow-apart}
 use Rattle.rules.proofs.Demand.Views.{was-alive, same-parent, effect-kept, shadow-fits, RowKept, RecordsKept, stale-stays}
