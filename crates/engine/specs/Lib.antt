@@ -1,2 +1,3 @@
--- What an event gives back.
+-- What an event gives back, and where the part of a look lies.
+pub mod Place
 pub mod Promise

@@ -1,6 +1,7 @@
 // A look: the card at the nearest version.
 ghost use mathlib.Core.Path.{_≡_};
 ghost use Rattle.rules.specs.Look.{look, lookedCard};
+ghost use Rattle.engine.specs.Place.{IsPart};
 use ancestry::walk::nearest;
 use causes::cause::event_cause;
 use causes::cause::store_cause;
@@ -11,8 +12,8 @@ use rules::table::STORE;
 use stores::place::base_place;
 use stores::place::shadow_place;
 
-// Back comes a part of the lent base or shadow slice, and in `cause` none; a refused look gives no bytes of the base slice,
-// and in `cause` why.
+// Back comes a part of the lent base or shadow slice, and in `cause` none; a refused look gives the empty part at the start
+// of the base slice, and in `cause` why.
 pub fn look<'a>(
     table: &[u64],
     base: &'a [u8],
@@ -25,16 +26,19 @@ pub fn look<'a>(
         ≡ look (now (table .entry)) (now (base .entry)) (now (shadow .entry)) n k .cause ⌝ }
     ensures bytes { λ r. ⌜ now r
         ≡ lookedCard (now (table .entry)) (now (base .entry)) (now (shadow .entry)) n k ⌝ }
+    ensures place { λ r. ⌜ IsPart (base .entry) (shadow .entry)
+        (look (now (table .entry)) (now (base .entry)) (now (shadow .entry)) n k .part) r ⌝ }
 {
+    let empty = &base[0..0];
     let outer = store_cause(table, base, shadow);
     if outer != NONE {
         *cause = outer;
-        return &base[0..0];
+        return empty;
     }
-    let inner = event_cause(table, READ, n, k, &base[0..0]);
+    let inner = event_cause(table, READ, n, k, empty);
     if inner != NONE {
         *cause = inner;
-        return &base[0..0];
+        return empty;
     }
     *cause = NONE;
     let holder = nearest(table, n, k);

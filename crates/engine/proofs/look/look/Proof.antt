@@ -2,16 +2,18 @@
 -- card inside one of the stores. Assumes nothing.
 use Prim.Native.Nat.{ℕ, _+_, _-_, _≤_}
 use native.Mathlib.Omega.{arith}
-use mathlib.Core.Path.{_≡_, refl, sym, _∙_}
+use mathlib.Core.Path.{_≡_, refl, sym, _∙_, ap}
 use mathlib.Core.Logic.{_≢_}
 use mathlib.Core.List.{List, []}
+use lib.ListN.{length, take, drop, length-drop}
+use lib.Seq.{length-take-le}
 use borrow.Author.Needs.{needs}
 use borrow.Author.Tests.{ne-eqb}
 use Rattle.rules.specs.Card.{cardLength}
 use Rattle.rules.specs.Table.{mostActions}
 use Rattle.rules.specs.Nearest.{nearest}
 use Rattle.rules.specs.Event.{readBy}
-use Rattle.rules.specs.Look.{lookCause, look, bytesOf}
+use Rattle.rules.specs.Look.{lookCause, look, emptyPart}
 use Rattle.rules.proofs.Laws.Allowed.{Allowed, allowed}
 use Rattle.rules.proofs.Laws.Walking.{nearest-started}
 use Rattle.rules.proofs.Sound.Soundness.{facts}
@@ -23,62 +25,59 @@ use Rattle.engine.proofs.look.look.Tie as tie
 -- a look that has a cause gives it, and the empty part
 refused :
     (w base shadow : List ℕ) (n k cause : ℕ) → lookCause w base shadow n k ≡ cause → cause ≢ 0 →
-    (cause ≡ look w base shadow n k .cause) × ([] ≡ bytesOf base shadow (look w base shadow n k .part))
+    look w base shadow n k ≡ record { cause = cause; part = emptyPart }
 refused w base shadow n k cause is given =
-    rw (look-refused w base shadow n k (λ none. given (sym is ∙ none))) (sym is, refl)
+    look-refused w base shadow n k (λ none. given (sym is ∙ none)) ∙ ap (λ x. record { cause = x; part = emptyPart }) is
 
 -- a part of 32 bytes has a card's length, wherever it starts
 card-size : (from : ℕ) → from + cardLength - from ≡ cardLength
 card-size from = omega arith
 
+-- and where the store has that many bytes from there on, so many are given
+whole : (from : ℕ) (store : List ℕ) → from + cardLength ≤ length store → length (take cardLength (drop from store)) ≡ cardLength
+whole from store fits = length-take-le cardLength (drop from store) (rw length-drop (omega arith))
+
+sub-empty : tie.Need-sub-empty
+sub-empty c = search needs
+
+part-empty-start : tie.Need-part-empty-start
+part-empty-start c = search needs
+
+part-empty-end : tie.Need-part-empty-end
+part-empty-end c = search needs
+
 store-cause-requires : tie.Need-store-cause-requires
 store-cause-requires c κs = search needs
-
-sub-result : tie.Need-sub-result
-sub-result c = search needs
-
-part-result-start : tie.Need-part-result-start
-part-result-start c = search needs
-
-part-result-end : tie.Need-part-result-end
-part-result-end c = search needs
 
 -- the look's cause, at entry
 abbrev causeAt : tie.Start → ℕ
 causeAt c = lookCause (c .args .table .now) (c .args .base .now) (c .args .shadow .now) (c .args .n) (c .args .k)
 
 -- where the first test holds, it is the one that was asked
-cause-given : (c : tie.Then1) → causeAt (c .before .before .before .before .before) ≡ c .before .store-cause .result
+cause-given : (c : tie.Then1) → causeAt (c .before .before .before .before .before .before) ≡ c .before .store-cause .result
 cause-given c =
     look-refused-as-read _ _ _ _ _ [] ∙ event-refused _ _ _ _ (c .before .store-cause .ensures) (c .if1 .taken)
 
 returns : tie.Need-returns
-returns c = refused _ _ _ _ _ _ (cause-given (c .before)) (c .before .if1 .taken)
+returns c =
+    rw (refused _ _ _ _ _ _ (cause-given c) (c .if1 .taken))
+    (refl, (refl, record { points = refl; size = refl }))
 
 -- behind the first test the stores fit and the table is sound
 accepted :
     (c : tie.Else1) →
-    let args = c .before .before .before .before .before .args in
+    let args = c .before .before .before .before .before .before .args in
     Accepted (args .table .now) (args .base .now) (args .shadow .now)
 accepted c = stores-accepted _ _ _ (c .before .store-cause .ensures) (c .if1 .left)
 
-sub-event-cause : tie.Need-sub-event-cause
-sub-event-cause c = search needs
-
-part-event-cause-start : tie.Need-part-event-cause-start
-part-event-cause-start c = search needs
-
-part-event-cause-end : tie.Need-part-event-cause-end
-part-event-cause-end c = search needs
-
 event-cause-requires : tie.Need-event-cause-requires
-event-cause-requires c κs = accepted (c .before) .1
+event-cause-requires c κs = accepted c .1
 
 -- there the look's cause is the one that is asked next
 cause-asked :
     (c : tie.After-event-cause) → causeAt (c .before .before .before .before .before .before .before) ≡ c .event-cause .result
 cause-asked c =
-    look-refused-as-read _ _ _ _ _ [] ∙ event-asked _ _ _ _ (accepted (c .before .before)) (c .event-cause .ensures)
+    look-refused-as-read _ _ _ _ _ [] ∙ event-asked _ _ _ _ (accepted (c .before)) (c .event-cause .ensures)
 
 -- and where there is none, a read is allowed
 read-allowed :
@@ -87,17 +86,10 @@ read-allowed :
     Allowed (args .table .now) (args .base .now) (args .shadow .now) (readBy (args .n) (args .k))
 read-allowed c = allowed _ _ _ _ (sym (look-refused-as-read _ _ _ _ _ _) ∙ cause-asked (c .before) ∙ c .if2 .left)
 
-sub-result-2 : tie.Need-sub-result-2
-sub-result-2 c = search needs
-
-part-result-start-2 : tie.Need-part-result-start-2
-part-result-start-2 c = search needs
-
-part-result-end-2 : tie.Need-part-result-end-2
-part-result-end-2 c = search needs
-
 returns-2 : tie.Need-returns-2
-returns-2 c = refused _ _ _ _ _ _ (cause-asked (c .before .before)) (c .before .if2 .taken)
+returns-2 c =
+    rw (refused _ _ _ _ _ _ (cause-asked (c .before)) (c .if2 .taken))
+    (refl, (refl, record { points = refl; size = refl }))
 
 -- the nearest version is the store's, or that of an action
 holder-known : (c : tie.After-nearest) → c .nearest .result ≤ mostActions
@@ -118,14 +110,14 @@ base-place-requires c κs = omega (arith, read-allowed (c .before .before) .acco
 add-to : tie.Need-add-to
 add-to c = omega (arith, c .base-place .ensures, read-allowed (c .before .before .before) .accountKnown refl)
 
-sub-result-3 : tie.Need-sub-result-3
-sub-result-3 c = search needs
+sub-result : tie.Need-sub-result
+sub-result c = search needs
 
-part-result-start-3 : tie.Need-part-result-start-3
-part-result-start-3 c = search needs
+part-result-start : tie.Need-part-result-start
+part-result-start c = search needs
 
-part-result-end-3 : tie.Need-part-result-end-3
-part-result-end-3 c =
+part-result-end : tie.Need-part-result-end
+part-result-end c =
     omega (
       arith,
       c .base-place .ensures,
@@ -142,10 +134,10 @@ returns-3 c =
     rw (
       look-given (args .table .now) (args .base .now) (args .shadow .now) (args .n) (args .k) none,
       top,
-      c .before .base-place .ensures,
+      ← c .before .base-place .ensures,
       card-size,
     )
-    (refl, refl)
+    (refl, (refl, record { points = refl; size = whole _ _ (part-result-end (c .before)) }))
 
 shadow-place-requires : tie.Need-shadow-place-requires
 shadow-place-requires c κs =
@@ -160,14 +152,14 @@ add-to-2 c =
       read-allowed (c .before .before .before) .accountKnown refl,
     )
 
-sub-result-4 : tie.Need-sub-result-4
-sub-result-4 c = search needs
+sub-result-2 : tie.Need-sub-result-2
+sub-result-2 c = search needs
 
-part-result-start-4 : tie.Need-part-result-start-4
-part-result-start-4 c = search needs
+part-result-start-2 : tie.Need-part-result-start-2
+part-result-start-2 c = search needs
 
-part-result-end-4 : tie.Need-part-result-end-4
-part-result-end-4 c =
+part-result-end-2 : tie.Need-part-result-end-2
+part-result-end-2 c =
     omega (
       arith,
       c .shadow-place .ensures,
@@ -187,35 +179,29 @@ returns-4 c =
       ← c .before .shadow-place .ensures,
       card-size,
     )
-    (refl, refl)
+    (refl, (refl, record { points = refl; size = whole _ _ (part-result-end-2 (c .before)) }))
 
 pub look-spec : {M : Type 1} → statement M
 look-spec =
     tie.close
     (tie.spec
+    sub-empty
+    part-empty-start
+    part-empty-end
     store-cause-requires
-    sub-result
-    part-result-start
-    part-result-end
     returns
-    sub-event-cause
-    part-event-cause-start
-    part-event-cause-end
     event-cause-requires
-    sub-result-2
-    part-result-start-2
-    part-result-end-2
     returns-2
     nearest-requires
     base-place-requires
     add-to
-    sub-result-3
-    part-result-start-3
-    part-result-end-3
+    sub-result
+    part-result-start
+    part-result-end
     returns-3
     shadow-place-requires
     add-to-2
-    sub-result-4
-    part-result-start-4
-    part-result-end-4
+    sub-result-2
+    part-result-start-2
+    part-result-end-2
     returns-4)
