@@ -1,7 +1,8 @@
 -- How long the lines of a listing can be: 9 letters, two numbers of 20 digits and a place of 4. So the lines of 1,000 answers
 -- and the last line fit 65,536 bytes. Assumes nothing.
-use Prim.Native.Nat.{ℕ, zero, suc, _+_, _*_, _≤_}
+use Prim.Native.Nat.{ℕ, zero, suc, _+_, _*_, _^_, _≤_, _<_}
 use native.Mathlib.Omega.{arith}
+use mathlib.Core.Path.{_≡_}
 use mathlib.Core.Bool.{Bool, cond}
 use mathlib.Core.List.{List, _∷_}
 use lib.Dec.{eqb, lit≤}
@@ -10,7 +11,7 @@ use Rattle.rules.specs.Encoding.{mostEvents, answerLength, refusedKind, started
 use Rattle.rules.proofs.Laws.Tests.{cond-holds}
 use Rattle.listing.specs.Listing.{spaced, endLine, refusedLine}
 use Rattle.listing.specs.Buffer.{wordOf, numbersOf, textOf, lineOf, linesOf, listingLength}
-use Rattle.listing.proofs.Decimals.{decimal-bound, place-bound}
+use Rattle.listing.proofs.Decimals.{placeDigits, decimal-bound, place-bound}
 use Rattle.listing.proofs.Pieces.{line-length, end-length}
 
 -- what holds of both outcomes holds of the one that a test picks
@@ -56,10 +57,10 @@ unfolding textOf
 text-bound kind first second = simp length-append (omega (arith, word-bound kind, numbers-bound kind first second))
 
 -- the longest line: a place of 4 digits, a word of 9 letters, two numbers of 20 digits, three spaces and a line feed
-abbrev pub lineLength : ℕ
+abbrev lineLength : ℕ
 lineLength = 57
 
-pub line-bound : (place kind first second : ℕ) → place ≤ mostEvents → length (lineOf place kind first second) ≤ lineLength
+line-bound : (place kind first second : ℕ) → place < 10 ^ placeDigits → length (lineOf place kind first second) ≤ lineLength
 line-bound place kind first second h =
     omega (
       arith,
@@ -68,7 +69,7 @@ line-bound place kind first second h =
       text-bound kind first second,
     )
 
-pub lines-bound : (words : List ℕ) (place i n : ℕ) → place + n ≤ mostEvents + 1 → length (linesOf words place i n) ≤ lineLength * n
+lines-bound : (words : List ℕ) (place i n : ℕ) → place + n ≤ mostEvents + 1 → length (linesOf words place i n) ≤ lineLength * n
 unfolding linesOf
 lines-bound words place i zero h = omega arith
 lines-bound words place i (suc n) h =
@@ -78,6 +79,14 @@ lines-bound words place i (suc n) h =
       line-bound place (getD words (answerLength * i) 0) (getD words (answerLength * i + 1) 0) (getD words (answerLength * i + 2) 0) (omega arith),
       lines-bound words (suc place) (suc i) n (omega arith),
     ))
+
+-- behind the lines of some of a day's answers there is room for one more
+pub line-fits :
+    (words : List ℕ) (i place kind first second : ℕ) {at room : ℕ} →
+    at ≡ 0 + length (linesOf words 1 0 i) → i < mostEvents → place < 10 ^ placeDigits → room ≡ listingLength →
+    at + length (lineOf place kind first second) ≤ room
+line-fits words i place kind first second is more digits room =
+    omega (arith, lines-bound words 1 0 i (omega arith), line-bound place kind first second digits)
 
 -- the longest last line: a word of 3 letters, two numbers of 20 digits, two spaces and a line feed
 abbrev pub endLength : ℕ

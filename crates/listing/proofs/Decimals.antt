@@ -8,7 +8,6 @@ use mathlib.Core.List.{List}
 use lib.Dec.{ltb}
 use lib.ListN.{length, length-append}
 use borrow.Author.Tests.{ltb-false, lt-ltb, le-ltb}
-use Rattle.rules.specs.Encoding.{mostEvents}
 use Rattle.rules.proofs.Laws.Tests.{cond-holds}
 use Rattle.io.specs.Digits.{digits, Fewest}
 use Rattle.listing.specs.Listing.{decimalWithin, decimal, mostDigits}
@@ -78,9 +77,9 @@ decimalWithin-below (suc k) (suc places) n h =
 pub decimal-bound : (n : ℕ) → length (decimal n) ≤ mostDigits
 decimal-bound n = decimalWithin-length mostDigits n
 
--- the digits of mostEvents, which is the highest place of a day
+-- the digits of the highest place of a day, which is mostEvents
 abbrev pub placeDigits : ℕ
 placeDigits = 4
 
-pub place-bound : (n : ℕ) → n ≤ mostEvents → length (decimal n) ≤ placeDigits
+pub place-bound : (n : ℕ) → n < 10 ^ placeDigits → length (decimal n) ≤ placeDigits
 place-bound n h = decimalWithin-below (placeDigits - 1) mostDigits n (omega arith)

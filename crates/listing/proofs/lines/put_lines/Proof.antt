@@ -1,16 +1,15 @@
 -- `put_lines` meets its contract. The loop's invariant: the lines of the first `i` answers have been put, and `at` is where
 -- they end. The buffer has room for the next line since no line is longer than lineLength. Assumes nothing.
-use Prim.Native.Nat.{_+_, _-_, _*_, _≤_}
+use Prim.Native.Nat.{_+_, _-_, _≤_}
 use native.Mathlib.Nat.{zero-add}
 use native.Mathlib.Omega.{arith}
 use mathlib.Core.Path.{_≡_, refl, sym}
-use lib.ListN.{length, getD}
+use lib.ListN.{length}
 use borrow.Author.Needs.{needs}
-use Rattle.rules.specs.Encoding.{answerLength}
 use Rattle.listing.specs.Buffer.{putAt, linesOf}
 use Rattle.listing.proofs.Texts.{put-then, putAt-nothing}
 use Rattle.listing.proofs.Pieces.{lines-next}
-use Rattle.listing.proofs.Bounds.{line-bound, lines-bound}
+use Rattle.listing.proofs.Bounds.{line-fits}
 use Rattle.listing.proofs.lines.put_lines.Statement.{statement}
 use Rattle.listing.proofs.lines.put_lines.Tie as tie
 
@@ -65,13 +64,8 @@ shared-slice-read-put-line-3 c = search needs
 
 put-line-requires : tie.Need-put-line-requires Inv-loop μ-loop
 put-line-requires c κs =
-    let words = c .before .before .before .before .before .before .before .before .args .answers .now in
-    let i = c .before .before .before .before .before .loop .i in
-    omega (
-      arith,
-      lines-bound words 1 0 i (omega arith),
-      line-bound (i + 1) (getD words (answerLength * i) 0) (getD words (answerLength * i + 1) 0) (getD words (answerLength * i + 2) 0) (omega arith),
-    )
+    let loop = c .before .before .before .before .before .loop in
+    line-fits _ (loop .i) _ _ _ _ (loop .inv .2 .0) (omega arith) (omega arith) (omega arith)
 
 add-i : tie.Need-add-i Inv-loop μ-loop
 add-i c = search needs
