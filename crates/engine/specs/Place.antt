@@ -1,4 +1,4 @@
--- Where the part that a look gives lies. Assumes nothing.
+-- RULES 3.2: where the part that a look gives lies. Assumes nothing.
 use Prim.Native.Nat.{ℕ, _+_}
 use mathlib.Core.Path.{_≡_}
 use mathlib.Core.List.{List}
@@ -6,7 +6,7 @@ use lib.ListN.{length}
 use denote.Ref.{RefT, ptr, now}
 use Rattle.rules.specs.Look.{Store, inBase, inShadow, Part}
 
--- the lent store, of the two
+-- of the two lent stores the one that a part is of
 abbrev pub lent : RefT (List ℕ) → RefT (List ℕ) → Store → RefT (List ℕ)
 lent base shadow inBase = base
 lent base shadow inShadow = shadow

@@ -17,4 +17,4 @@ pub mod JudgingRule
 pub mod Backward
 pub mod Collected
 pub mod Theorem
-pub mod PlainR
+pub mod WhoIsInR
