@@ -117,22 +117,22 @@ actsOfStarts chosen i h (e ∷ es) (a ∷ answers) =
     cond (chosen (now .startOf (e .number))) (actOf i e (told a) ++ later) later
 
 -- what is told of the actions of S = es, given to a new table over the stores base and shadow
-abbrev pub toldOver : List ℕ → List ℕ → List Event → Lineage
-toldOver base shadow es = lineageOf es (answersTo base shadow es)
+abbrev pub lineageOver : List ℕ → List ℕ → List Event → Lineage
+lineageOver base shadow es = lineageOf es (answersTo base shadow es)
 
--- What is claimed of it.
+-- What is claimed of these actions.
 pub record PlainR (base shadow : List ℕ) (es : List Event) : Type 0 where
   -- isInR is R by the rule
-  pub rule : IsR (toldOver base shadow es) (isInR (toldOver base shadow es))
+  pub rule : IsR (lineageOver base shadow es) (isInR (lineageOver base shadow es))
   -- and any choice by the rule is this one
   pub unique :
-      (chosen : ℕ → Bool) → IsR (toldOver base shadow es) chosen →
-      (x : ℕ) → 1 ≤ x → x ≤ toldOver base shadow es .starts → chosen x ≡ isInR (toldOver base shadow es) x
+      (chosen : ℕ → Bool) → IsR (lineageOver base shadow es) chosen →
+      (x : ℕ) → 1 ≤ x → x ≤ lineageOver base shadow es .starts → chosen x ≡ isInR (lineageOver base shadow es) x
   -- an action's number reaches the store exactly where the action is in R
   pub reached :
       startsReach (λ n. 0) es (answersTo base shadow es)
-      ≡ map (isInR (toldOver base shadow es)) (upFrom 1 (toldOver base shadow es .starts))
+      ≡ map (isInR (lineageOver base shadow es)) (upFrom 1 (lineageOver base shadow es .starts))
   -- the reads and writes of which demand 3 speaks are those of the actions in R
   pub acts :
       actsOfR 0 (λ n. 0) es (answersTo base shadow es)
-      ≡ actsOfStarts (isInR (toldOver base shadow es)) 0 noStarts es (answersTo base shadow es)
+      ≡ actsOfStarts (isInR (lineageOver base shadow es)) 0 noStarts es (answersTo base shadow es)

@@ -27,7 +27,7 @@ returns c =
     rw (
       loop .inv .1,
       atOrBelow-step _ (start .args .a) (loop .at) (λ z. omega arith)
-      (started-climbs _ (start .pre .0 .few) (start .pre .0 .below) (loop .at) (omega arith)),
+          (started-climbs _ (start .pre .0 .few) (start .pre .0 .below) (loop .at) (omega arith)),
       eq-eqb _ _ (c .if1 .taken),
     )
 
@@ -49,7 +49,7 @@ loop-again c =
       rw (
         loop .inv .1,
         atOrBelow-step _ (start .args .a) (loop .at) (λ z. omega arith)
-      (started-climbs _ (start .pre .0 .few) (start .pre .0 .below) (loop .at) (omega arith)),
+            (started-climbs _ (start .pre .0 .few) (start .pre .0 .below) (loop .at) (omega arith)),
         ne-eqb _ _ (c .before .if1 .left),
         ← c .parent .ensures,
       ),
