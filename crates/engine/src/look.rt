@@ -12,8 +12,8 @@ use rules::table::STORE;
 use stores::place::base_place;
 use stores::place::shadow_place;
 
-// Back comes a part of the lent base or shadow slice, and in `cause` none; a refused look gives the empty part at the start
-// of the base slice, and in `cause` why.
+// Back comes a part of the lent base or shadow slice, and in `cause` none; a refused look gives a part of no
+// bytes where the base slice begins, and in `cause` why.
 pub fn look<'a>(
     table: &[u64],
     base: &'a [u8],
