@@ -1,15 +1,15 @@
 -- A day that isn't refused: the list call runs its events, and what it leaves is what the day's definition says. Assumes
 -- nothing.
-use Prim.Native.Nat.{ℕ, zero, suc, _+_, _-_, _*_, _/_, _%_, _≤_}
+use Prim.Native.Nat.{ℕ, zero, suc, _+_, _-_, _*_, _/_, _≤_}
 use native.Mathlib.Nat.{le-of-eq}
 use native.Mathlib.Omega.{arith}
 use native.Mathlib.Decide.{ℕ-discrete}
 use mathlib.Core.Path.{_≡_, refl, sym, ap, _∙_}
 use mathlib.Core.Logic.{_≢_}
-use mathlib.Core.Bool.{true, false, not}
+use mathlib.Core.Bool.{not}
 use mathlib.Core.List.{List, [], _∷_, _++_}
-use borrow.Author.Tests.{eqb-true, eq-eqb, ne-eqb, le-ltb, not-false}
-use lib.Dec.{eqb, ltb}
+use borrow.Author.Tests.{eqb-true, eq-eqb, ne-eqb, not-false}
+use lib.Dec.{eqb}
 use lib.ListN.{length, take, drop, replicate, length-append, length-drop, length-replicate}
 use lib.Seq.{take-all}
 use Rattle.rules.specs.Card.{baseLength}
@@ -25,7 +25,7 @@ use Rattle.table.specs.Open.{openTable}
 use Rattle.rules.specs.Encoding.{eventLength, mostEvents, answerLength, eventsFrom, eventsIn}
 use Rattle.lists.specs.Listed.{listCause, Listed, listedOf, runList}
 use Rattle.causes.proofs.Grouped.{Accepted}
-use Rattle.lists.proofs.ListRun.{list-length-cause}
+use Rattle.lists.proofs.ListRun.{no-list-cause}
 use Rattle.dayread.specs.File.{eventCount, eventBytes, eventsPlace}
 use Rattle.dayread.specs.Opening.{openingBase}
 use Rattle.dayfile.specs.Day.{dayCause, Accepts, HasAnswerRoom, dayRun, dayWords, dayLedger, dayLines, listing, Day, dayOf, runDay}
@@ -34,7 +34,7 @@ use Rattle.listing.specs.Buffer.{listingLength, putAt, listingOf}
 use Rattle.listing.proofs.Texts.{putAt-length}
 use Rattle.listing.proofs.Bounds.{listing-fits, refused-fits}
 use Rattle.listing.proofs.AnswerLines.{lines-of-answers}
-use Rattle.dayread.proofs.Faultless.{Faultless, faultless}
+use Rattle.dayread.proofs.Faultless.{faultless}
 
 pub accepts : (s : Ledger) (file : List ℕ) → dayCause s file ≡ 0 → Accepts s file
 unfolding dayCause
@@ -66,16 +66,10 @@ module _ (s : Ledger) (file buffer : List ℕ) (a : Accepts s file) (room : HasA
     accepted = (record { baseFits = fits; shadowFits = a .shadowFits }, new-sound)
 
     list-runs : listCause opened (eventBytes file) buffer ≡ 0
-    list-runs = list-length-cause opened (eventBytes file) buffer accepted ∙ rw (whole, fits-buffer)
-      where
-        f : Faultless file
-        f = faultless file (a .clean)
-
-        whole : eqb (length (eventBytes file) % eventLength) 0 ≡ true
-        whole = eq-eqb (length (eventBytes file) % eventLength) 0 (omega (arith, list-length))
-
-        fits-buffer : ltb (length buffer / answerLength) (length (eventBytes file) / eventLength) ≡ false
-        fits-buffer = le-ltb (length buffer / answerLength) (length (eventBytes file) / eventLength) (omega (arith, list-length, f .fewEvents))
+    list-runs =
+        let f = faultless file (a .clean) in
+        no-list-cause opened (eventBytes file) buffer accepted
+        (omega (arith, list-length)) (omega (arith, list-length, f .fewEvents))
 
     opened-ran :
         runList opened (eventBytes file) buffer ≡ listedOf 0 (dayRun (s .shadow) file .after) (dayWords (s .shadow) file buffer)

@@ -1,15 +1,16 @@
 -- A list of events, event by event: after each one, what is left to do leaves and answers what the whole list does. Assumes nothing.
-use Prim.Native.Nat.{ℕ, suc, _+_, _-_, _*_, _≤_, _<_}
+use Prim.Native.Nat.{ℕ, suc, _+_, _-_, _*_, _/_, _%_, _≤_, _<_}
 use native.Mathlib.Omega.{arith}
 use native.Mathlib.Nat.{sub-zero}
 use native.Mathlib.Numerals.{add-one}
 use mathlib.Core.Path.{_≡_, refl, _∙_}
 use mathlib.Core.Logic.{_≢_}
-use mathlib.Core.Bool.{cond}
+use mathlib.Core.Bool.{not, cond}
 use mathlib.Core.List.{List, _∷_, _++_, append-assoc}
 use lib.ListN.{length, take, drop, length-append, length-take, length-drop, take-append-drop}
 use lib.Seq.{length-take-le, take-at, drop-at, drop-drop}
-use borrow.Author.Tests.{ne-eqb}
+use lib.Dec.{eqb}
+use borrow.Author.Tests.{lt-ltb, le-ltb, eq-eqb, ne-eqb}
 use Rattle.rules.specs.Event.{Event}
 use Rattle.rules.specs.Cause.{firstCause, storeCauses}
 use Rattle.rules.specs.Ledger.{Ledger}
@@ -19,7 +20,8 @@ use Rattle.rules.proofs.Laws.AnswerWords.{words-length}
 use Rattle.rules.proofs.Sound.Kept.{step-keeps-sound}
 use Rattle.rules.proofs.Stores.Untouched.{lengths-kept}
 use Rattle.rules.specs.Encoding.{eventLength, eventAt, eventsFrom, eventsIn, wordsOf, answerLength, withWords, wordsOfAll}
-use Rattle.lists.specs.Listed.{isListLengthWrong, listCause, listedOf, runList}
+use Rattle.rules.proofs.Laws.Tests.{or-inr}
+use Rattle.lists.specs.Listed.{listLengthCause, isListLengthWrong, listCause, listedOf, runList}
 use Rattle.causes.proofs.Grouped.{Accepted, stores-refused, stores-passed}
 
 -- ---- one answer's words in the buffer
@@ -137,7 +139,25 @@ module _ (s : Ledger) (bytes buffer : List ℕ) where
   unfolding listCause
   list-stores-cause asked given = stores-refused (s .table) (s .base) (s .shadow) _ asked given
 
-  pub list-length-cause :
-      Accepted (s .table) (s .base) (s .shadow) → listCause s bytes buffer ≡ cond (isListLengthWrong bytes buffer) 10 0
+  list-length-cause :
+      Accepted (s .table) (s .base) (s .shadow) → listCause s bytes buffer ≡ cond (isListLengthWrong bytes buffer) listLengthCause 0
   unfolding listCause
   list-length-cause = stores-passed (s .table) (s .base) (s .shadow) _
+
+  -- the list is cut inside an event
+  pub cut-cause :
+      Accepted (s .table) (s .base) (s .shadow) → length bytes % eventLength ≢ 0 → listCause s bytes buffer ≡ listLengthCause
+  cut-cause accepted cut = list-length-cause accepted ∙ rw (ne-eqb (length bytes % eventLength) 0 cut)
+
+  -- the buffer has no room for its answers
+  pub no-room-cause :
+      Accepted (s .table) (s .base) (s .shadow) → length buffer / answerLength < length bytes / eventLength →
+      listCause s bytes buffer ≡ listLengthCause
+  no-room-cause accepted short =
+      list-length-cause accepted ∙ rw (or-inr (not (eqb (length bytes % eventLength) 0)) (lt-ltb _ _ short))
+
+  pub no-list-cause :
+      Accepted (s .table) (s .base) (s .shadow) → length bytes % eventLength ≡ 0 →
+      length bytes / eventLength ≤ length buffer / answerLength → listCause s bytes buffer ≡ 0
+  no-list-cause accepted whole room =
+      list-length-cause accepted ∙ rw (eq-eqb (length bytes % eventLength) 0 whole, le-ltb _ _ room)

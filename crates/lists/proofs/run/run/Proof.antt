@@ -4,11 +4,11 @@ use Prim.Native.Nat.{_-_}
 use native.Mathlib.Omega.{arith}
 use mathlib.Core.Path.{sym, _∙_}
 use borrow.Author.Needs.{needs}
-use borrow.Author.Tests.{eq-eqb, ne-eqb, lt-ltb, le-ltb}
 use Rattle.rules.specs.Ledger.{ledgerOf}
 use Rattle.rules.specs.Encoding.{eventsIn}
+use Rattle.lists.specs.Listed.{listLengthCause}
 use Rattle.causes.proofs.Grouped.{Accepted, stores-accepted}
-use Rattle.lists.proofs.ListRun.{Done, none-done, one-done, all-done, list-refused, list-ran, list-stores-cause, list-length-cause}
+use Rattle.lists.proofs.ListRun.{Done, none-done, one-done, all-done, list-refused, list-ran, list-stores-cause, cut-cause, no-room-cause, no-list-cause}
 use Rattle.lists.proofs.run.run.Statement.{statement}
 use Rattle.lists.proofs.run.run.Tie as tie
 
@@ -53,7 +53,9 @@ same-length-6 c = search needs
 
 returns-2 : tie.Need-returns-2 Inv-loop μ-loop
 returns-2 c =
-    list-refused _ _ _ 10 (λ z. omega arith) (list-length-cause _ _ _ (accepted (c .before)) ∙ rw (ne-eqb _ 0 (c .if2 .taken)))
+    let bytes = c .before .before .before .before .before .before .before .before .before .before .before .args .events .now in
+    list-refused _ bytes _ listLengthCause (λ z. omega arith)
+    (cut-cause _ bytes _ (accepted (c .before)) (λ z. omega (arith, c .if2 .taken)))
 
 same-length-7 : tie.Need-same-length-7 Inv-loop μ-loop
 same-length-7 c = search needs
@@ -66,8 +68,7 @@ same-length-9 c = search needs
 
 returns-3 : tie.Need-returns-3 Inv-loop μ-loop
 returns-3 c =
-    list-refused _ _ _ 10 (λ z. omega arith)
-    (list-length-cause _ _ _ (accepted (c .before .before)) ∙ rw (eq-eqb _ 0 (c .before .if2 .left), lt-ltb _ _ (c .if3 .taken)))
+    list-refused _ _ _ listLengthCause (λ z. omega arith) (no-room-cause _ _ _ (accepted (c .before .before)) (c .if3 .taken))
 
 loop-holds : tie.Need-loop-holds Inv-loop μ-loop
 loop-holds c = none-done _ _ _ _ (accepted (c .before .before))
@@ -119,8 +120,8 @@ unfolding eventsIn
 returns-4 c =
     let (leaves, words) = all-done _ _ _ _ _ _ _ (c .before .loop .inv) (c .loop-test .left) in
     list-ran _ _ _ _ _
-    (list-length-cause _ _ _ (accepted (c .before .before .before .before))
-    ∙ rw (eq-eqb _ 0 (c .before .before .before .if2 .left), le-ltb _ _ (c .before .before .if3 .left)))
+    (no-list-cause _ _ _ (accepted (c .before .before .before .before))
+    (c .before .before .before .if2 .left) (c .before .before .if3 .left))
     leaves words
 
 pub run-spec : {M : Type 1} → statement M

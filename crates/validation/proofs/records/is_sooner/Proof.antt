@@ -1,4 +1,5 @@
 -- `is_sooner` meets its contract: each way out is one outcome of the three tests. Assumes nothing.
+use native.Mathlib.Omega.{arith}
 use borrow.Author.Needs.{needs}
 use borrow.Author.Tests.{lt-ltb, le-ltb, ne-eqb}
 use Rattle.validation.proofs.records.is_sooner.Statement.{statement}
@@ -8,7 +9,9 @@ end-time-requires : tie.Need-end-time-requires
 end-time-requires c κs = search needs
 
 returns : tie.Need-returns
-returns c = rw (← c .before .end-time .ensures, le-ltb _ _ (c .if1 .taken))
+returns c =
+    let t = c .before .before .before .args .t in
+    rw (← c .before .end-time .ensures, le-ltb t (c .before .end-time .result) (omega (arith, c .if1 .taken)))
 
 returns-2 : tie.Need-returns-2
 returns-2 c = rw (← c .before .before .end-time .ensures, lt-ltb _ _ (c .before .if1 .left), c .if2 .taken)
