@@ -3,24 +3,22 @@
 use Prim.Native.Nat.{ℕ, suc, _+_}
 use native.Mathlib.Nat.{zero-add, add-zero, add-suc, suc-add}
 use mathlib.Core.Path.{_≡_, refl, sym, ap, _∙_}
-use mathlib.Core.Bool.{true}
 use mathlib.Core.List.{List, [], _∷_}
 use lib.ListN.{length}
-use Rattle.rules.specs.Card.{baseLength, shadowLength, basePlace, cardAt}
-use Rattle.rules.specs.Event.{Event, isStart, isRead, isWrite, isCommit}
+use Rattle.rules.specs.Card.{IsCard, baseLength, shadowLength, basePlace, cardAt}
+use Rattle.rules.specs.Event.{Event}
 use Rattle.rules.specs.declared.Found.{Found}
 use Rattle.rules.specs.declared.Found.the-variants.{Nothing, At}
 use Rattle.rules.specs.Clash.{firstClash}
 use Rattle.rules.specs.Ledger.{Ledger}
-use Rattle.rules.specs.Step.{Outcome, start, read, write, judged, commit, abort, step}
+use Rattle.rules.specs.Step.{Outcome, start, read, write, judged, abort, step}
 use Rattle.rules.specs.Run.{run}
 use Rattle.rules.specs.Serial.Told.{told}
 use Rattle.rules.specs.Serial.Collect.{Known, commitsAt, laidAll, stepped, collectOne, collectFrom, unknown, storeBlock}
 use Rattle.rules.specs.Serial.Machine.{serial}
 use Rattle.rules.specs.Serial.Demand.{cardGiven, newOver, answersTo, Demand3}
 use Rattle.rules.proofs.Laws.Bytes.{store-by-cards}
-use Rattle.rules.proofs.Laws.EventCases.{AllowedIn, step-by-cause, act-by-kind}
-use Rattle.rules.proofs.Laws.Permitted.{Committable, start-permitted, read-permitted, write-permitted, commit-permitted}
+use Rattle.rules.proofs.Laws.Permitted.{Startable, Touchable, Committable, step-by-kind}
 use Rattle.rules.proofs.Serial.Invariant.{inv-opening}
 use Rattle.rules.proofs.Serial.Running.{Whole, OnlyChildren, SerialRun, block-runs}
 use Rattle.rules.proofs.Serial.Exact.{exact-acts}
@@ -43,45 +41,40 @@ module _
       Proper (o .after) → lookedIn (o .after) (e .number) (e .account) ≡ got i →
       Kept J got opening (o .after) (collectOne i e (told (o .answer)) (commitsAt e (told (o .answer))) c)
 
-  module _ (a : AllowedIn s e) where
-    starts : isStart e ≡ true → KeptAfter (start s (e .number))
-    unfolding KeptAfter start collectOne commitsAt stepped laidAll
-    starts is proper′ given = start-kept J got opening kept i (e .number) (start-permitted a is) proper′
+  starts : Startable (s .table) (e .number) → KeptAfter (start s (e .number))
+  unfolding KeptAfter start collectOne commitsAt stepped laidAll
+  starts permitted proper′ given = start-kept J got opening kept i (e .number) permitted proper′
 
-    reads : isRead e ≡ true → KeptAfter (read s (e .number) (e .account))
-    unfolding KeptAfter read collectOne commitsAt stepped laidAll
-    reads is proper′ given = read-kept J got opening kept i (e .number) (e .account) (read-permitted a is) proper′ given
+  reads : Touchable (s .table) (e .number) (e .account) → KeptAfter (read s (e .number) (e .account))
+  unfolding KeptAfter read collectOne commitsAt stepped laidAll
+  reads = read-kept J got opening kept i (e .number) (e .account)
 
-    writes : isWrite e ≡ true → KeptAfter (write s (e .number) (e .account) (e .card))
-    unfolding KeptAfter write collectOne commitsAt stepped laidAll
-    writes is proper′ given =
-        write-kept J got opening kept i (e .number) (e .account) (write-permitted a is) (e .card) (a .cardFits is) proper′
+  writes :
+      Touchable (s .table) (e .number) (e .account) → IsCard (e .card) →
+      KeptAfter (write s (e .number) (e .account) (e .card))
+  unfolding KeptAfter write collectOne commitsAt stepped laidAll
+  writes permitted card proper′ given =
+      write-kept J got opening kept i (e .number) (e .account) permitted (e .card) card proper′
 
-    judges :
-        Committable (s .table) (e .number) → (f : Found) → firstClash (s .table) (e .number) ≡ f →
-        KeptAfter (judged s (e .number) f)
-    unfolding KeptAfter judged collectOne commitsAt stepped laidAll
-    judges j Nothing clear proper′ given =
-        pass-kept J got opening kept i (e .number) j proper′ (J .passes s (kept .proper) (e .number) j clear)
-    judges j (At t k) clash proper′ given =
-        drop-kept J got opening kept i _ proper′
-        (fail-drops s (kept .proper) (e .number) j) (J .at-failed-commit s (kept .proper) (e .number) j)
+  judges :
+      Committable (s .table) (e .number) → (f : Found) → firstClash (s .table) (e .number) ≡ f →
+      KeptAfter (judged s (e .number) f)
+  unfolding KeptAfter judged collectOne commitsAt stepped laidAll
+  judges j Nothing clear proper′ given =
+      pass-kept J got opening kept i (e .number) j proper′ (J .passes s (kept .proper) (e .number) j clear)
+  judges j (At t k) clash proper′ given =
+      drop-kept J got opening kept i _ proper′
+      (fail-drops s (kept .proper) (e .number) j) (J .at-failed-commit s (kept .proper) (e .number) j)
 
-    commits : isCommit e ≡ true → KeptAfter (commit s (e .number))
-    unfolding commit
-    commits is = judges (commit-permitted a is) (firstClash (s .table) (e .number)) refl
-
-    aborts : KeptAfter (abort s (e .number))
-    unfolding KeptAfter abort collectOne commitsAt stepped laidAll
-    aborts proper′ given =
-        drop-kept J got opening kept i _ proper′
-        (abort-drops s (kept .proper) (e .number)) (J .at-abort s (kept .proper) (e .number))
+  aborts : KeptAfter (abort s (e .number))
+  unfolding KeptAfter abort collectOne commitsAt stepped laidAll
+  aborts proper′ given =
+      drop-kept J got opening kept i _ proper′
+      (abort-drops s (kept .proper) (e .number)) (J .at-abort s (kept .proper) (e .number))
 
   step-keeps : KeptAfter (step s e)
   unfolding KeptAfter collectOne commitsAt stepped laidAll
-  step-keeps =
-      step-by-cause s e KeptAfter (λ _ _. kept)
-      (λ a. act-by-kind s e KeptAfter (starts a) (reads a) (writes a) (commits a) (λ _. aborts a))
+  step-keeps = step-by-kind s e KeptAfter (λ _ _. kept) starts reads writes judges aborts
 
 -- ---- a list of events
 

@@ -11,18 +11,17 @@ use lib.ListN.{length}
 use Rattle.rules.specs.declared.Answer.the-variants.{Refused}
 use Rattle.rules.specs.declared.Found.{Found}
 use Rattle.rules.specs.declared.Found.the-variants.{Nothing, At}
-use Rattle.rules.specs.Card.{baseLength, shadowLength}
+use Rattle.rules.specs.Card.{IsCard, baseLength, shadowLength}
 use Rattle.rules.specs.Table.{stateField, parentOf}
-use Rattle.rules.specs.Event.{Event, isStart, isRead, isWrite, isCommit}
-use Rattle.rules.specs.Clash.{firstClash}
+use Rattle.rules.specs.Event.{Event}
 use Rattle.rules.specs.Ledger.{Ledger}
-use Rattle.rules.specs.Step.{commitTable, committedUnder, Outcome, start, read, write, judged, commit, abort, step}
+use Rattle.rules.specs.Step.{commitTable, committedUnder, Outcome, start, read, write, judged, abort, step}
 use Rattle.rules.specs.Run.{run}
 use Rattle.rules.specs.Serial.Told.{told}
 use Rattle.rules.specs.Serial.Demand.{newOver, answersTo}
 use Rattle.rules.specs.Serial.Starts.{noStarts, lineageOf, PlainR}
-use Rattle.rules.proofs.Laws.EventCases.{causeIn, AllowedIn, step-by-cause, act-by-kind}
-use Rattle.rules.proofs.Laws.Permitted.{Committable, not-own-parent, start-permitted, read-permitted, write-permitted, commit-permitted}
+use Rattle.rules.proofs.Laws.EventCases.{causeIn}
+use Rattle.rules.proofs.Laws.Permitted.{Startable, Touchable, Committable, not-own-parent, step-by-kind}
 use Rattle.rules.proofs.Sound.Starting.{start-parent}
 use Rattle.rules.proofs.Sound.Committing.{commit-keeps-row}
 use Rattle.rules.proofs.Serial.Lineages.{ordered-at-first, from-ordered, inR-by-rule, rule-decides}
@@ -74,50 +73,43 @@ module _ (s : Ledger) (proper : Proper s) (e : Event) where
   unfolding AsTold
   refused = record { tree′ = abstract-tree s proper; parent-kept = λ X x. refl; lives = λ X l. l }
 
-  module _ (a : AllowedIn s e) where
-    starts : isStart e ≡ true → AsTold (start s (e .number))
-    unfolding AsTold start
-    starts is =
-        let permitted = start-permitted a is in
-        let st = start-starts s proper (e .number) permitted in
-        change-tells (st .still)
-        (record {
-          was-free = λ l. omega (arith, alive-started (s .table) _ l);
-          now-live = st .started-live;
-          under = start-parent (s .table) (e .number) (proper .sound .long) (permitted .room);
-          nobody-else-new = st .nobody-else-new;
-        })
+  starts : Startable (s .table) (e .number) → AsTold (start s (e .number))
+  unfolding AsTold start
+  starts permitted =
+      let st = start-starts s proper (e .number) permitted in
+      change-tells (st .still)
+      (record {
+        was-free = λ l. omega (arith, alive-started (s .table) _ l);
+        now-live = st .started-live;
+        under = start-parent (s .table) (e .number) (proper .sound .long) (permitted .room);
+        nobody-else-new = st .nobody-else-new;
+      })
 
-    reads : isRead e ≡ true → AsTold (read s (e .number) (e .account))
-    unfolding AsTold read
-    reads is =
-        let r = read-reads s proper (e .number) (e .account) (read-permitted a is) in
-        change-tells (r .still) (r .nobody-new, r .reader-live)
+  reads : Touchable (s .table) (e .number) (e .account) → AsTold (read s (e .number) (e .account))
+  unfolding AsTold read
+  reads permitted =
+      let r = read-reads s proper (e .number) (e .account) permitted in
+      change-tells (r .still) (r .nobody-new, r .reader-live)
 
-    writes : isWrite e ≡ true → AsTold (write s (e .number) (e .account) (e .card))
-    unfolding AsTold write
-    writes is =
-        let w = abstract-write s proper (e .number) (e .account) (write-permitted a is) (e .card) (a .cardFits is) in
-        change-tells (w .change) (w .nobody-new, w .writer-live)
+  writes :
+      Touchable (s .table) (e .number) (e .account) → IsCard (e .card) → AsTold (write s (e .number) (e .account) (e .card))
+  unfolding AsTold write
+  writes permitted card =
+      let w = abstract-write s proper (e .number) (e .account) permitted (e .card) card in
+      change-tells (w .change) (w .nobody-new, w .writer-live)
 
-    judges : Committable (s .table) (e .number) → (f : Found) → AsTold (judged s (e .number) f)
-    unfolding AsTold judged
-    judges j Nothing = change-tells (abstract-commit proper j refl .change) (commit-ends proper j)
-    judges j (At t k) = let d = fail-drops s proper (e .number) j in change-tells (d .still) (d .nobody-new)
+  judges : Committable (s .table) (e .number) → (f : Found) → AsTold (judged s (e .number) f)
+  unfolding AsTold judged
+  judges j Nothing = change-tells (abstract-commit proper j refl .change) (commit-ends proper j)
+  judges j (At t k) = let d = fail-drops s proper (e .number) j in change-tells (d .still) (d .nobody-new)
 
-    commits : isCommit e ≡ true → AsTold (commit s (e .number))
-    unfolding commit
-    commits is = judges (commit-permitted a is) (firstClash (s .table) (e .number))
-
-    aborts : AsTold (abort s (e .number))
-    unfolding AsTold abort
-    aborts = let d = abort-drops s proper (e .number) in change-tells (d .still) (d .nobody-new)
+  aborts : AsTold (abort s (e .number))
+  unfolding AsTold abort
+  aborts = let d = abort-drops s proper (e .number) in change-tells (d .still) (d .nobody-new)
 
   event-tells : Tells (abstraction s) (abstraction (step s e .after)) e (told (step s e .answer))
   unfolding AsTold
-  event-tells =
-      step-by-cause s e AsTold refused
-      (λ a. act-by-kind s e AsTold (starts a) (reads a) (writes a) (commits a) (λ _. aborts a))
+  event-tells = step-by-kind s e AsTold refused starts reads writes (λ j f _. judges j f) aborts
 
 -- ---- a list of events
 

@@ -1,19 +1,23 @@
 -- An event that isn't refused, kind by kind: what holds of the action that it names. Assumes nothing.
 use Prim.Native.Nat.{ℕ, _≤_, _<_}
 use native.Mathlib.Omega.{arith}
-use mathlib.Core.Path.{_≡_}
+use mathlib.Core.Path.{_≡_, refl}
 use mathlib.Core.Logic.{_≢_}
 use mathlib.Core.Bool.{true, false, _||_}
 use mathlib.Core.List.{List}
 use borrow.Author.Tests.{eq-eqb}
-use Rattle.rules.specs.Card.{accountCount}
+use Rattle.rules.specs.declared.Answer.the-variants.{Refused}
+use Rattle.rules.specs.declared.Found.{Found}
+use Rattle.rules.specs.Card.{accountCount, IsCard}
 use Rattle.rules.specs.Table.{mostActions, started, parentOf, isLive, isLiveChildOf, hasLiveChild, actions}
 use Rattle.rules.specs.Sound.{IsStarted}
 use Rattle.rules.specs.Event.{Event, isStart, isRead, isWrite, isCommit}
 use Rattle.rules.specs.Ledger.{Ledger}
+use Rattle.rules.specs.Clash.{firstClash}
+use Rattle.rules.specs.Step.{Outcome, start, read, write, judged, commit, abort, step}
 use Rattle.rules.proofs.Laws.Tests.{and-both, not-both, or-inl, or-inr}
 use Rattle.rules.proofs.Laws.Ranges.{not-any-at}
-use Rattle.rules.proofs.Laws.EventCases.{AllowedIn, read-no-start, write-no-start, commit-no-start}
+use Rattle.rules.proofs.Laws.EventCases.{causeIn, AllowedIn, step-by-cause, act-by-kind, read-no-start, write-no-start, commit-no-start}
 
 -- an action may start under p: p is the store or live, and there is a number left
 pub record Startable (w : List ℕ) (p : ℕ) : Type 0 where
@@ -34,8 +38,10 @@ pub record Committable (w : List ℕ) (n : ℕ) : Type 0 where
   pub alive : isLive w n ≡ true
   pub childless : hasLiveChild w n ≡ false
 
+-- ---- what an event that isn't refused permits
+
 module _ {s : Ledger} {e : Event} (a : AllowedIn s e) where
-  pub start-permitted : isStart e ≡ true → Startable (s .table) (e .number)
+  start-permitted : isStart e ≡ true → Startable (s .table) (e .number)
   start-permitted is = record { known = a .numberKnown; alive = a .alive; room = a .room is }
 
   named-started : isStart e ≡ false → IsStarted (s .table) (e .number)
@@ -53,13 +59,7 @@ module _ {s : Ledger} {e : Event} (a : AllowedIn s e) where
         account = a .accountKnown used;
       }
 
-  pub read-permitted : isRead e ≡ true → Touchable (s .table) (e .number) (e .account)
-  read-permitted is = touch-permitted (read-no-start e is) (or-inl (isWrite e) is)
-
-  pub write-permitted : isWrite e ≡ true → Touchable (s .table) (e .number) (e .account)
-  write-permitted is = touch-permitted (write-no-start e is) (or-inr (isRead e) is)
-
-  pub commit-permitted : isCommit e ≡ true → Committable (s .table) (e .number)
+  commit-permitted : isCommit e ≡ true → Committable (s .table) (e .number)
   commit-permitted is =
       let other = commit-no-start e is in
       record {
@@ -67,6 +67,25 @@ module _ {s : Ledger} {e : Event} (a : AllowedIn s e) where
         alive = named-alive other;
         childless = a .childless (or-inr (isRead e || isWrite e) is);
       }
+
+-- What holds of a refused event, and of an event of each kind where it is permitted, holds of the event.
+module _ (s : Ledger) (e : Event) (P : Outcome → Type 0) where
+  pub step-by-kind :
+      P (record { answer = Refused (causeIn s e); after = s }) →
+      (Startable (s .table) (e .number) → P (start s (e .number))) →
+      (Touchable (s .table) (e .number) (e .account) → P (read s (e .number) (e .account))) →
+      (Touchable (s .table) (e .number) (e .account) → IsCard (e .card) → P (write s (e .number) (e .account) (e .card))) →
+      (Committable (s .table) (e .number) → (f : Found) → firstClash (s .table) (e .number) ≡ f → P (judged s (e .number) f)) →
+      P (abort s (e .number)) → P (step s e)
+  unfolding commit
+  step-by-kind refused starts reads writes judges aborts =
+      step-by-cause s e P refused
+      (λ a. act-by-kind s e P
+      (λ is. starts (start-permitted a is))
+      (λ is. reads (touch-permitted a (read-no-start e is) (or-inl (isWrite e) is)))
+      (λ is. writes (touch-permitted a (write-no-start e is) (or-inr (isRead e) is)) (a .cardFits is))
+      (λ is. judges (commit-permitted a is) (firstClash (s .table) (e .number)) refl)
+      (λ _. aborts))
 
 -- ---- an action without a live child
 

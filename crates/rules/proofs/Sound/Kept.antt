@@ -1,21 +1,18 @@
 -- The new table is sound, and every event keeps every sound table sound, refused ones included: the theorem that the rest
 -- of the folder leads to. Assumes nothing.
 use Prim.Native.Nat.{ℕ}
-use mathlib.Core.Path.{_≡_, refl}
-use mathlib.Core.Bool.{true}
+use mathlib.Core.Path.{refl}
 use mathlib.Core.List.{List, [], _∷_}
 use Rattle.rules.specs.Range.{upFrom, all, count}
 use Rattle.rules.specs.Table.{word, newTable, actions}
 use Rattle.rules.specs.Sound.{sound, Sound}
-use Rattle.rules.specs.Event.{Event, isStart, isRead, isWrite, isCommit}
+use Rattle.rules.specs.Event.{Event}
 use Rattle.rules.specs.declared.Found.{Found}
 use Rattle.rules.specs.declared.Found.the-variants.{Nothing, At}
-use Rattle.rules.specs.Clash.{firstClash}
 use Rattle.rules.specs.Ledger.{Ledger}
-use Rattle.rules.specs.Step.{Outcome, start, read, write, committedUnder, judged, commit, abort, step}
+use Rattle.rules.specs.Step.{Outcome, start, read, write, committedUnder, judged, abort, step}
 use Rattle.rules.specs.Run.{run}
-use Rattle.rules.proofs.Laws.EventCases.{AllowedIn, step-by-cause, act-by-kind}
-use Rattle.rules.proofs.Laws.Permitted.{Committable, start-permitted, read-permitted, write-permitted, commit-permitted}
+use Rattle.rules.proofs.Laws.Permitted.{Startable, Touchable, Committable, step-by-kind}
 use Rattle.rules.proofs.Sound.Soundness.{facts}
 use Rattle.rules.proofs.Sound.TableChanges.{TableChange, change-keeps-sound}
 use Rattle.rules.proofs.Sound.Starting.{start-keeps-sound}
@@ -34,48 +31,39 @@ new-sound = facts newTable refl
 abbrev Sounds : Outcome → Type 0
 Sounds o = Sound (o .after .table)
 
-module _ (s : Ledger) (e : Event) (a : AllowedIn s e) where
-  was : Sound (s .table)
-  was = facts (s .table) (a .soundTest)
+module _ (s : Ledger) (was : Sound (s .table)) (n : ℕ) where
+  by-change : (v : List ℕ) → TableChange (s .table) v n → Sound v
+  by-change v c = change-keeps-sound (s .table) v n was c
 
-  by-change : (v : List ℕ) → TableChange (s .table) v (e .number) → Sound v
-  by-change v c = change-keeps-sound (s .table) v (e .number) was c
-
-  start-sound : isStart e ≡ true → Sounds (start s (e .number))
+  start-sound : Startable (s .table) n → Sounds (start s n)
   unfolding start
-  start-sound is =
-      let p = start-permitted a is in
-      start-keeps-sound (s .table) (e .number) was (p .room) (p .known) (p .alive)
+  start-sound p = start-keeps-sound (s .table) n was (p .room) (p .known) (p .alive)
 
-  read-sound : isRead e ≡ true → Sounds (read s (e .number) (e .account))
+  read-sound : (k : ℕ) → Touchable (s .table) n k → Sounds (read s n k)
   unfolding read
-  read-sound is = by-change _ (read-change (s .table) (e .number) (e .account) (read-permitted a is .account) was)
+  read-sound k p = by-change _ (read-change (s .table) n k (p .account) was)
 
-  write-sound : isWrite e ≡ true → Sounds (write s (e .number) (e .account) (e .card))
+  write-sound : (k : ℕ) (card : List ℕ) → Touchable (s .table) n k → Sounds (write s n k card)
   unfolding write
-  write-sound is =
-      let p = write-permitted a is in
-      by-change _ (write-change (s .table) was (e .number) (e .account) (p .own) (p .alive) (p .account))
+  write-sound k card p = by-change _ (write-change (s .table) was n k (p .own) (p .alive) (p .account))
 
-  judged-sound : Committable (s .table) (e .number) → (f : Found) → Sounds (judged s (e .number) f)
+  judged-sound : Committable (s .table) n → (f : Found) → Sounds (judged s n f)
   unfolding judged committedUnder
-  judged-sound j Nothing = by-change _ (commit-change (s .table) was (e .number) j)
-  judged-sound j (At t k) = by-change _ (fail-change (s .table) was (e .number) j)
+  judged-sound j Nothing = by-change _ (commit-change (s .table) was n j)
+  judged-sound j (At t k) = by-change _ (fail-change (s .table) was n j)
 
-  commit-sound : isCommit e ≡ true → Sounds (commit s (e .number))
-  unfolding commit
-  commit-sound is = judged-sound (commit-permitted a is) (firstClash (s .table) (e .number))
-
-  abort-sound : Sounds (abort s (e .number))
+  abort-sound : Sounds (abort s n)
   unfolding abort
-  abort-sound = by-change _ (abort-change (s .table) (e .number) was)
+  abort-sound = by-change _ (abort-change (s .table) n was)
 
 -- ---- any event, and any list of them
 
 pub step-keeps-sound : (s : Ledger) (e : Event) → Sound (s .table) → Sound (step s e .after .table)
-step-keeps-sound s e sounds =
-    step-by-cause s e Sounds sounds
-    (λ a. act-by-kind s e Sounds (start-sound s e a) (read-sound s e a) (write-sound s e a) (commit-sound s e a) (λ _. abort-sound s e a))
+step-keeps-sound s e was =
+    let n = e .number in
+    step-by-kind s e Sounds was
+    (start-sound s was n) (read-sound s was n (e .account)) (λ p _. write-sound s was n (e .account) (e .card) p)
+    (λ j f _. judged-sound s was n j f) (abort-sound s was n)
 
 pub run-keeps-sound : (s : Ledger) (es : List Event) → Sound (s .table) → Sound (run s es .after .table)
 unfolding run
