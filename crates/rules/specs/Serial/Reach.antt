@@ -1,5 +1,6 @@
 -- RULES 6.3: R, from S and the answers alone, without blocks. An action's number is followed on through S: where it commits
--- its parent is followed from there, and it is in R where the end of S is reached at the store. Assumes nothing.
+-- its parent is followed from there, and it is in R where the end of S is reached at the store. Starts.antt has R in the words
+-- of the rule; proofs/Demand/WhoIsInR.antt shows that the two are the same. Assumes nothing.
 use Prim.Native.Nat.{ℕ, suc}
 use mathlib.Core.Bool.{Bool, true, false, cond, _&&_}
 use mathlib.Core.Option.{Option, none, some}
