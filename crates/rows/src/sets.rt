@@ -1,17 +1,14 @@
 // The read set and the write set of an action.
 ghost use Prim.Native.Nat.{_+_};
 ghost use mathlib.Core.Path.{_≡_};
-ghost use Rattle.rules.specs.Card.{IsAccount, accounts};
-ghost use Rattle.rules.specs.Table.{withFields, readField, writeField, hasWrites, hasEnd, withSets};
+ghost use Rattle.rules.specs.Card.{accounts};
+ghost use Rattle.rules.specs.Table.{IsField, withFields, hasWrites, hasEnd, withSets};
 ghost use Rattle.rules.specs.Step.{joinedRead, joinTable};
-ghost use Rattle.rows.specs.Join.{joinedWrite, joinField, joinFields};
+ghost use Rattle.rows.specs.Join.{joinedWrite, joinedEntry, joinField, joinFields};
 ghost use Rattle.rows.specs.Row.{HasRow, HasAccountFields, AreTwo};
 use crate::fields::has_written;
 use crate::fields::is_committed;
-use crate::fields::read_entry;
-use crate::fields::set_read_entry;
-use crate::fields::set_write_entry;
-use crate::fields::write_entry;
+use crate::words::get;
 use crate::words::put;
 use rules::store::ACCOUNTS;
 use rules::table::ENTERED;
@@ -81,49 +78,37 @@ fn joined_write(child: u64, parent: u64) -> u64
     if child == NO_ENTRY { parent } else { ENTERED }
 }
 
-// Account k's read entry of n joined to that of p.
-fn join_read(table: &mut [u64], n: u64, p: u64, k: u64)
-    requires { ⌜ HasRow (now table) n ⌝ }
-    requires { ⌜ HasRow (now table) p ⌝ }
-    requires { ⌜ IsAccount k ⌝ }
-    ensures { λ r. ⌜ now (table .exit) ≡ joinField (now (table .entry)) n p joinedRead (readField k) ⌝ }
+// Of two entries, by whose set they are: a read set's, or else a write set's.
+fn joined_entry(reads: bool, child: u64, parent: u64) -> u64
+    ensures { λ r. ⌜ r ≡ joinedEntry reads child parent ⌝ }
 {
-    let joined = joined_read(read_entry(table, n, k), read_entry(table, p, k));
-    set_read_entry(table, p, k, joined);
-}
-
-// Account k's write entry of n joined to that of p.
-fn join_write(table: &mut [u64], n: u64, p: u64, k: u64)
-    requires { ⌜ HasRow (now table) n ⌝ }
-    requires { ⌜ HasRow (now table) p ⌝ }
-    requires { ⌜ IsAccount k ⌝ }
-    ensures { λ r. ⌜ now (table .exit) ≡ joinField (now (table .entry)) n p joinedWrite (writeField k) ⌝ }
-{
-    let joined = joined_write(write_entry(table, n, k), write_entry(table, p, k));
-    set_write_entry(table, p, k, joined);
-}
-
-// The union of both read sets becomes p's.
-fn join_reads(table: &mut [u64], n: u64, p: u64)
-    requires { ⌜ HasRow (now table) n ⌝ }
-    requires { ⌜ HasRow (now table) p ⌝ }
-    requires { ⌜ AreTwo n p ⌝ }
-    ensures { λ r. ⌜ now (table .exit) ≡ joinFields (now (table .entry)) n p joinedRead readField accounts ⌝ }
-{
-    for k in 0..ACCOUNTS {
-        join_read(table, n, p, k);
+    if reads {
+        return joined_read(child, parent);
     }
+    joined_write(child, parent)
 }
 
-// The union of both write sets becomes p's.
-fn join_writes(table: &mut [u64], n: u64, p: u64)
+// Field f of n joined to that of p.
+fn join_field(table: &mut [u64], n: u64, p: u64, f: u64, reads: bool)
+    requires { ⌜ HasRow (now table) n ⌝ }
+    requires { ⌜ HasRow (now table) p ⌝ }
+    requires { ⌜ IsField f ⌝ }
+    ensures { λ r. ⌜ now (table .exit) ≡ joinField (now (table .entry)) n p (joinedEntry reads) f ⌝ }
+{
+    let joined = joined_entry(reads, get(table, n, f), get(table, p, f));
+    put(table, p, f, joined);
+}
+
+// One set's fields, from `first` on: the union of n's set and of p's becomes p's.
+fn join_fields(table: &mut [u64], n: u64, p: u64, first: u64, reads: bool)
     requires { ⌜ HasRow (now table) n ⌝ }
     requires { ⌜ HasRow (now table) p ⌝ }
     requires { ⌜ AreTwo n p ⌝ }
-    ensures { λ r. ⌜ now (table .exit) ≡ joinFields (now (table .entry)) n p joinedWrite writeField accounts ⌝ }
+    requires { ⌜ HasAccountFields first ⌝ }
+    ensures { λ r. ⌜ now (table .exit) ≡ joinFields (now (table .entry)) n p (joinedEntry reads) (λ k. first + k) accounts ⌝ }
 {
     for k in 0..ACCOUNTS {
-        join_write(table, n, p, k);
+        join_field(table, n, p, first + k, reads);
     }
 }
 
@@ -134,6 +119,6 @@ pub fn join_sets(table: &mut [u64], n: u64, p: u64)
     requires { ⌜ AreTwo n p ⌝ }
     ensures { λ r. ⌜ now (table .exit) ≡ joinTable (now (table .entry)) n p ⌝ }
 {
-    join_reads(table, n, p);
-    join_writes(table, n, p);
+    join_fields(table, n, p, READ_FIELDS, true);
+    join_fields(table, n, p, WRITE_FIELDS, false);
 }

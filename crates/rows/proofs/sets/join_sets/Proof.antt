@@ -5,19 +5,19 @@ use Rattle.rows.proofs.Joining.{joined-both}
 use Rattle.rows.proofs.sets.join_sets.Statement.{statement}
 use Rattle.rows.proofs.sets.join_sets.Tie as tie
 
-join-reads-requires : tie.Need-join-reads-requires
-join-reads-requires c κs = search needs
+join-fields-requires : tie.Need-join-fields-requires
+join-fields-requires c κs = search needs
 
-join-writes-requires : tie.Need-join-writes-requires
-join-writes-requires c κs = search needs
+join-fields-requires-2 : tie.Need-join-fields-requires-2
+join-fields-requires-2 c κs = search needs
 
 same-length : tie.Need-same-length
 same-length c = search needs
 
 returns : tie.Need-returns
 returns c =
-    rw (c .before .before .join-writes .ensures, c .before .before .before .before .before .before .join-reads .ensures)
+    rw (c .before .before .join-fields2 .ensures, c .before .before .before .before .before .before .join-fields .ensures)
     (joined-both _ _ _)
 
 pub join-sets-spec : {M : Type 1} → statement M
-join-sets-spec = tie.close (tie.spec join-reads-requires join-writes-requires same-length returns)
+join-sets-spec = tie.close (tie.spec join-fields-requires join-fields-requires-2 same-length returns)
