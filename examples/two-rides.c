@@ -23,7 +23,7 @@ static void event(const char *what, uint64_t code, uint64_t number, uint64_t acc
     printf("%-32s %s", what, kinds[kind]);
     if (kind != MUNDZAVCH_ANSWER_WRITTEN)
         printf(" %llu", (unsigned long long)first);
-    if (kind == MUNDZAVCH_ANSWER_FAILED)
+    if (kind == MUNDZAVCH_ANSWER_READ || kind == MUNDZAVCH_ANSWER_FAILED)
         printf(" %llu", (unsigned long long)second);
     printf("\n");
 }

@@ -6,7 +6,7 @@
  * be any: a wrong one is refused, as is any content. A call that is refused leaves the table and both stores as they
  * were. No call fails in another way.
  *
- * Stack that a call takes: about 27 KB for a day; about 3.5 KB for an event or a list and 2.2 KB for a look where
+ * Stack that a call takes: about 29 KB for a day; about 4.6 KB for an event or a list and 3.3 KB for a look where
  * actions lie 64 deep, as the walk up the parents calls itself.
  *
  * Numbers of the refusals:
@@ -62,7 +62,8 @@ enum {
 enum {
     MUNDZAVCH_ANSWER_REFUSED = 0,   /* first: the number of the refusal */
     MUNDZAVCH_ANSWER_STARTED = 1,   /* first: the new action's number */
-    MUNDZAVCH_ANSWER_READ = 2,      /* first: the action whose card was read, 0 for the base store */
+    MUNDZAVCH_ANSWER_READ = 2,      /* first: the action whose card was read, 0 for the base store;
+                                       second: how many moves up it was found, 0 for the action's own card */
     MUNDZAVCH_ANSWER_WRITTEN = 3,
     MUNDZAVCH_ANSWER_COMMITTED = 4, /* first: the end time, 0 where nothing was written */
     MUNDZAVCH_ANSWER_FAILED = 5,    /* a clash, and the action is aborted; first: its end time, second: its account */
@@ -82,10 +83,12 @@ uint64_t mundzavch_event(uint64_t *table, size_t words, uint8_t *base, size_t ba
                          size_t shadow_bytes, uint64_t code, uint64_t number, uint64_t account, const uint8_t *card,
                          size_t card_bytes, uint64_t *first, uint64_t *second);
 
-/* The card that a read of this action and account would be given now, copied to the 32 bytes at `card`; nothing is
- * recorded. Returns 0, or the number with which the read would be refused (1, 2, 4, 5, 7 or 9), and `card` stays. */
+/* The card that a read of this action and account would be given now, copied to the 32 bytes at `card`, and in *moves
+ * how many moves up it was found; nothing is recorded. Returns 0, or the number with which the read would be refused
+ * (1, 2, 4, 5, 7 or 9); then `card` stays, and *moves is 0. */
 uint64_t mundzavch_look(const uint64_t *table, size_t words, const uint8_t *base, size_t base_bytes,
-                        const uint8_t *shadow, size_t shadow_bytes, uint64_t number, uint64_t account, uint8_t *card);
+                        const uint8_t *shadow, size_t shadow_bytes, uint64_t number, uint64_t account, uint8_t *card,
+                        uint64_t *moves);
 
 /* A list of events, MUNDZAVCH_EVENT_BYTES to each, one after the other: code, number and account are one byte each
  * here, and the card has its 32. Each event's answer, refused ones too, is MUNDZAVCH_ANSWER_WORDS words of `answers`,

@@ -8,6 +8,7 @@ use std::fmt;
 pub struct Coverage {
     answers: BTreeMap<&'static str, u64>,
     refusals: BTreeMap<u64, u64>,
+    moves: BTreeMap<u64, u64>,
     unsound: BTreeMap<String, u64>,
     sound: u64,
     pub table_length: u64,
@@ -30,7 +31,10 @@ impl Coverage {
                 "refused"
             }
             Answer::Started(_) => "started",
-            Answer::Read(_) => "read",
+            Answer::Read(v) => {
+                *self.moves.entry(v.moves).or_default() += 1;
+                "read"
+            }
             Answer::Written => "written",
             Answer::Committed(_) => "committed",
             Answer::Failed(..) => "failed",
@@ -77,6 +81,7 @@ impl fmt::Display for Coverage {
     fn fmt(&self, f: &mut fmt::Formatter) -> fmt::Result {
         row(f, "answers", &self.answers)?;
         row(f, "refusals by number", &self.refusals)?;
+        row(f, "reads by moves up", &self.moves)?;
         writeln!(f, "lists: {}, lists in one call: {}", self.lists, self.list_calls)?;
         row(f, "lists in one call refused by number", &self.list_refusals)?;
         writeln!(f, "reads held to the serial run: {}", self.serial_reads)?;

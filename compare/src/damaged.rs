@@ -8,7 +8,7 @@ use crate::generate::{event, events, shape};
 use crate::header::{BASE_BYTES, SHADOW_BYTES};
 use crate::library::{decode, encode, Lent};
 use crate::lists::Opening;
-use crate::model::{Answer, Card, Event, Ledger};
+use crate::model::{Answer, Event, Ledger, Shown};
 use crate::random::Random;
 use crate::same::{same, same_lent, Compared};
 use crate::shrink::{described, smallest_list};
@@ -23,7 +23,7 @@ const TABLES_TO_A_HISTORY: u64 = 50;
 const SALT: u64 = 0xda3a_6ed0;
 
 /// What the second engine makes of one event on anything that was lent.
-fn expected(lent: &Lent, e: &Event, seen: &mut Coverage) -> (Answer, Lent, Result<Card, u64>) {
+fn expected(lent: &Lent, e: &Event, seen: &mut Coverage) -> (Answer, Lent, Result<Shown, u64>) {
     let misfit = lent.base.len() != BASE_BYTES || lent.shadow.len() != SHADOW_BYTES;
     let Some(table) = decode(&lent.table) else {
         let cause = if misfit { cause::STORE_LENGTH } else { cause::UNSOUND };

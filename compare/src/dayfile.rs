@@ -112,7 +112,7 @@ fn write_words(out: &mut String, a: Answer) {
     match a {
         Answer::Refused(c) => write!(out, "refused {c}"),
         Answer::Started(n) => write!(out, "started {n}"),
-        Answer::Read(n) => write!(out, "read {n}"),
+        Answer::Read(v) => write!(out, "read {} {}", v.holder, v.moves),
         Answer::Written => write!(out, "written"),
         Answer::Committed(t) => write!(out, "committed {t}"),
         Answer::Failed(t, k) => write!(out, "failed {t} {k}"),

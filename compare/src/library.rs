@@ -2,7 +2,7 @@
 
 use crate::cause;
 use crate::header::*;
-use crate::model::{Action, Answer, Card, Event, State, Table};
+use crate::model::{Action, Answer, Event, Shown, State, Table, Version};
 
 /// Words of row 0, the head.
 pub const STARTED: usize = 0;
@@ -23,6 +23,8 @@ const _: () = assert!(TABLE_WORDS == ROW_WORDS * (ACTIONS + 1), "a table is a he
 
 /// What stands where a refused look must not write.
 const UNTOUCHED: u8 = 0xee;
+/// What stands where a look puts its moves, 0 where it is refused.
+const NO_COUNT: u64 = u64::MAX;
 
 extern "C" {
     fn mundzavch_open(table: *mut u64, words: usize) -> u64;
@@ -53,6 +55,7 @@ extern "C" {
         number: u64,
         account: u64,
         card: *mut u8,
+        moves: *mut u64,
     ) -> u64;
     fn mundzavch_run(
         table: *mut u64,
@@ -116,13 +119,14 @@ impl Lent {
         answer([kind, first, second])
     }
 
-    pub fn look(&self, number: u64, account: u64) -> Result<Card, u64> {
-        let mut card = [UNTOUCHED; CARD_BYTES];
-        let cause = on_parts!(mundzavch_look, as_ptr, self, [], [number, account, card.as_mut_ptr()]);
+    pub fn look(&self, number: u64, account: u64) -> Result<Shown, u64> {
+        let (mut card, mut moves) = ([UNTOUCHED; CARD_BYTES], NO_COUNT);
+        let cause = on_parts!(mundzavch_look, as_ptr, self, [], [number, account, card.as_mut_ptr(), &mut moves]);
         if cause == cause::NONE {
-            return Ok(card);
+            return Ok(Shown { card, moves });
         }
         assert_eq!(card, [UNTOUCHED; CARD_BYTES], "a refused look wrote a card");
+        assert_eq!(moves, 0, "a refused look has moves");
         Err(cause)
     }
 
@@ -154,14 +158,15 @@ pub fn answer(words: [u64; ANSWER_WORDS]) -> Answer {
     let a = match kind {
         ANSWER_REFUSED => Answer::Refused(first),
         ANSWER_STARTED => Answer::Started(first),
-        ANSWER_READ => Answer::Read(first),
+        ANSWER_READ => Answer::Read(Version { holder: first, moves: second }),
         ANSWER_WRITTEN => Answer::Written,
         ANSWER_COMMITTED => Answer::Committed(first),
         ANSWER_FAILED => Answer::Failed(first, second),
         ANSWER_ABORTED => Answer::Aborted(first),
         _ => panic!("an answer of kind {kind}"),
     };
-    assert!(kind == ANSWER_FAILED || second == 0, "a second number for kind {kind}");
+    let has_second = matches!(kind, ANSWER_READ | ANSWER_FAILED);
+    assert!(has_second || second == 0, "a second number for kind {kind}");
     assert!(kind != ANSWER_WRITTEN || first == 0, "a number for a written card");
     a
 }
@@ -170,7 +175,7 @@ pub fn answer_words(a: Answer) -> [u64; ANSWER_WORDS] {
     match a {
         Answer::Refused(c) => [ANSWER_REFUSED, c, 0],
         Answer::Started(n) => [ANSWER_STARTED, n, 0],
-        Answer::Read(n) => [ANSWER_READ, n, 0],
+        Answer::Read(v) => [ANSWER_READ, v.holder, v.moves],
         Answer::Written => [ANSWER_WRITTEN, 0, 0],
         Answer::Committed(t) => [ANSWER_COMMITTED, t, 0],
         Answer::Failed(t, k) => [ANSWER_FAILED, t, k],

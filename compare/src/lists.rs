@@ -6,7 +6,7 @@ use crate::dayfile::event_bytes;
 use crate::generate::{bytes, events, shape};
 use crate::header::{ANSWER_WORDS, BASE_BYTES, CARD_BYTES, SHADOW_BYTES, TABLE_WORDS};
 use crate::library::{answer, encode, Lent};
-use crate::model::{Answer, Card, Event, Ledger};
+use crate::model::{Answer, Card, Event, Ledger, Shown};
 use crate::random::Random;
 use crate::same::{same, same_bytes, same_lent, same_words, Compared};
 use crate::serial::serial_run;
@@ -38,7 +38,7 @@ impl Opening {
     }
 }
 
-/// A list, event by event: answer, table, both stores, and the card that a look shows; then the serial run, and the
+/// A list, event by event: answer, table, both stores, and what a look shows; then the serial run, and the
 /// same list in one call.
 fn list(opening: &Opening, events: &[Event], seen: &mut Coverage) -> Compared {
     let mut lent = opening.lend();
@@ -55,7 +55,7 @@ fn list(opening: &Opening, events: &[Event], seen: &mut Coverage) -> Compared {
         same_bytes("shadow store", &lent.shadow, &ledger.shadow)?;
         let shown = lent.look(e.number, e.account);
         same("look", shown, ledger.look(e.number, e.account))?;
-        if let (Answer::Read(_), Ok(card)) = (a, shown) {
+        if let (Answer::Read(_), Ok(Shown { card, .. })) = (a, shown) {
             given.insert(i, card);
         }
         seen.answer(a);

@@ -45,6 +45,13 @@ impl Action {
     }
 }
 
+/// The nearest version of an account: the action or the store that has it, and how many moves up lead there.
+#[derive(Clone, Copy, PartialEq, Eq, Debug)]
+pub struct Version {
+    pub holder: u64,
+    pub moves: u64,
+}
+
 #[derive(Clone, PartialEq, Eq, Debug)]
 pub struct Table {
     pub started: u64,
@@ -139,16 +146,14 @@ impl Table {
         false
     }
 
-    /// The holder of an account's nearest version: an action or the store.
-    pub fn nearest(&self, mut n: u64, account: usize) -> u64 {
-        while n != STORE {
-            let a = self.action(n);
-            if a.writes[account] != 0 {
-                return n;
-            }
-            n = a.parent;
+    /// Climbs from an action to the first that has the account's card, and counts its moves; the last may be to the store.
+    pub fn nearest(&self, n: u64, account: usize) -> Version {
+        let mut at = Version { holder: n, moves: 0 };
+        while at.holder != STORE && self.action(at.holder).writes[account] == 0 {
+            at.holder = self.action(at.holder).parent;
+            at.moves += 1;
         }
-        STORE
+        at
     }
 
     /// The first clash: by end time, then by account.
@@ -183,11 +188,19 @@ pub struct Event {
 pub enum Answer {
     Refused(u64),
     Started(u64),
-    Read(u64),
+    /// The nearest version.
+    Read(Version),
     Written,
     Committed(u64),
     Failed(u64, u64),
     Aborted(u64),
+}
+
+/// What a look shows: a card, and how many moves up it was found.
+#[derive(Clone, Copy, PartialEq, Eq, Debug)]
+pub struct Shown {
+    pub card: Card,
+    pub moves: u64,
 }
 
 /// A table and its two stores (RULES 1.8).
@@ -332,17 +345,18 @@ impl Ledger {
     }
 
     /// The card at the nearest version, or why it can't be had.
-    pub fn look(&self, n: u64, account: u64) -> Result<Card, u64> {
+    pub fn look(&self, n: u64, account: u64) -> Result<Shown, u64> {
         let read = Event { code: EVENT_READ, number: n, account, card: Vec::new() };
         if let Some(cause) = self.stores_cause().or_else(|| self.event_cause(&read)) {
             return Err(cause);
         }
         let k = account as usize;
-        let part = match self.table.nearest(n, k) {
+        let Version { holder, moves } = self.table.nearest(n, k);
+        let part = match holder {
             STORE => &self.base[base_card(k)],
             m => &self.shadow[shadow_card(m, k)],
         };
-        Ok(part.try_into().expect("a card's length"))
+        Ok(Shown { card: part.try_into().expect("a card's length"), moves })
     }
 }
 

@@ -1,11 +1,13 @@
--- What a walk up the parents asks of its caller. Assumes nothing.
-use Prim.Native.Nat.{ℕ, _≤_, _<_}
+-- What a walk up the parents asks of its caller, and how it counts. Assumes nothing.
+use Prim.Native.Nat.{ℕ, _+_, _≤_, _<_}
 use mathlib.Core.Path.{_≡_}
 use mathlib.Core.List.{List}
 use lib.ListN.{length}
 use Rattle.rules.specs.Card.{accountCount}
 use Rattle.rules.specs.Table.{tableLength, mostActions, started, parentOf}
 use Rattle.rules.specs.Sound.{IsStarted, Sound}
+use Rattle.rules.specs.declared.Version.{Version}
+use Rattle.rules.specs.Nearest.{movesUp}
 
 -- the parents of w's actions are below them: a walk up ends at the store
 pub record ParentsBelow (w : List ℕ) : Type 0 where
@@ -22,3 +24,11 @@ pub record Readable (w : List ℕ) (n k : ℕ) : Type 0 where
   pub sound : Sound w
   pub known : n ≤ started w
   pub account : k < accountCount
+
+-- the moves made on the way to n and those that are left from there are together no more than there can be actions
+abbrev pub HasMovesLeft : List ℕ → ℕ → ℕ → ℕ → Type 0
+HasMovesLeft w n k made = made + movesUp w n k ≤ mostActions
+
+-- RULES 3.1: a version seen from so many moves further down
+abbrev pub countedOn : ℕ → Version → Version
+countedOn made v = record { holder = v .holder; moves = made + v .moves }

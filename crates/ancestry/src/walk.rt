@@ -1,24 +1,38 @@
 // Going up the parents.
 ghost use mathlib.Core.Path.{_≡_};
 ghost use Rattle.rules.specs.Walk.{isAtOrBelow};
-ghost use Rattle.rules.specs.Nearest.{nearest};
-ghost use Rattle.ancestry.specs.Ancestry.{ParentsBelow, IsKnown, Readable};
+ghost use Rattle.rules.specs.Nearest.{version};
+ghost use Rattle.ancestry.specs.Ancestry.{ParentsBelow, IsKnown, Readable, HasMovesLeft, countedOn};
 use rows::fields::has_written;
 use rows::fields::parent;
+use rules::Version;
+use rules::table::NO_MOVES;
 use rules::table::STORE;
 
-// The holder of the nearest version.
-pub fn nearest(table: &[u64], n: u64, k: u64) -> u64
+// The nearest version seen from n, after the moves already made on the way there.
+fn climb(table: &[u64], n: u64, k: u64, moves: u64) -> Version
     requires { ⌜ Readable (now table) n k ⌝ }
-    ensures { λ r. ⌜ r ≡ nearest (now (table .entry)) n k ⌝ }
+    requires { ⌜ HasMovesLeft (now table) n k moves ⌝ }
+    ensures { λ r. ⌜ r ≡ countedOn moves (version (now (table .entry)) n k) ⌝ }
 {
     if n == STORE {
-        return STORE;
+        return Version {
+            holder: STORE,
+            moves,
+        };
     }
     if has_written(table, n, k) {
-        return n;
+        return Version { holder: n, moves };
     }
-    nearest(table, parent(table, n), k)
+    climb(table, parent(table, n), k, moves + 1)
+}
+
+// The nearest version: its holder, and the moves up to it, by one walk.
+pub fn nearest(table: &[u64], n: u64, k: u64) -> Version
+    requires { ⌜ Readable (now table) n k ⌝ }
+    ensures { λ r. ⌜ r ≡ version (now (table .entry)) n k ⌝ }
+{
+    climb(table, n, k, NO_MOVES)
 }
 
 // Action m is a, or one of its parents is.

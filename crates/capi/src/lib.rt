@@ -65,7 +65,7 @@ pub extern "C" fn mundzavch_event(
     words[0]
 }
 
-// look::look, its part copied to the front of `card`, which a refused look leaves as it was.
+// look::look, its part copied to the front of `card`, which a refused look leaves as it was; its moves in `moves`.
 #[no_mangle]
 pub extern "C" fn mundzavch_look<'a>(
     table: &[u64],
@@ -74,15 +74,18 @@ pub extern "C" fn mundzavch_look<'a>(
     number: u64,
     account: u64,
     card: &mut [u8; CARD_LENGTH],
+    moves: &mut u64,
 ) -> u64
     ensures cause { λ r. ⌜ r
         ≡ look (now (table .entry)) (now (base .entry)) (now (shadow .entry)) number account .cause ⌝ }
+    ensures moves { λ r. ⌜ now (moves .exit)
+        ≡ look (now (table .entry)) (now (base .entry)) (now (shadow .entry)) number account .moves ⌝ }
     ensures card { λ r. ⌜ now (card .exit)
         ≡ shownIn (now (card .entry))
         (lookedCard (now (table .entry)) (now (base .entry)) (now (shadow .entry)) number account) ⌝ }
 {
     let mut cause = NONE;
-    let part = engine::look::look(table, base, shadow, number, account, &mut cause);
+    let part = engine::look::look(table, base, shadow, number, account, &mut cause, moves);
     bytes::copy(part, card);
     cause
 }

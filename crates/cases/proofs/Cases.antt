@@ -8,7 +8,7 @@ use Rattle.rules.specs.Table.{word, withWord, withFields, newTable, hasWrites, 
 use Rattle.rules.specs.Walk.{walkUp, isAtOrBelow}
 use Rattle.rules.specs.Sound.{hasReadInTime, hasEndAlone, isSoundAction, sound}
 use Rattle.rules.specs.Cause.{storeCauses, eventCauses, causesOf, causeOf}
-use Rattle.rules.specs.Nearest.{nearest}
+use Rattle.rules.specs.Nearest.{nearest, movesUp}
 use Rattle.rules.specs.Look.{lookCause, look}
 use Rattle.rules.specs.Clash.{pairsWith, clashesWith, clashes, least, firstClash}
 use Rattle.rules.specs.Step.{start, startTable, read, readTable, write, writeTable, commit, commitTime, commitCounter, joinTable, commitTable, copyCards, committedUnder, judged, abort, abortTable, act, step}
@@ -23,15 +23,15 @@ use Rattle.cases.specs.Example.{example, exampleRun, exampleExpected}
 use Rattle.cases.specs.InR.{nested, nestedInR, nestedExpected}
 
 pub cases-hold : map (λ c. resultOf (c .question)) cases ≡ map (λ c. c .expected) cases
-unfolding upFrom any all count filter fold accounts cardAt withCard word withWord withFields newTable hasWrites withSets actions hasLiveChild isRecordOf records walkUp isAtOrBelow hasReadInTime hasEndAlone isSoundAction sound storeCauses eventCauses causesOf causeOf nearest lookCause look pairsWith clashesWith clashes least firstClash start startTable read readTable write writeTable commit commitTime commitCounter joinTable commitTable copyCards committedUnder judged abort abortTable act step run resultOf cases
+unfolding upFrom any all count filter fold accounts cardAt withCard word withWord withFields newTable hasWrites withSets actions hasLiveChild isRecordOf records walkUp isAtOrBelow hasReadInTime hasEndAlone isSoundAction sound storeCauses eventCauses causesOf causeOf nearest movesUp lookCause look pairsWith clashesWith clashes least firstClash start startTable read readTable write writeTable commit commitTime commitCounter joinTable commitTable copyCards committedUnder judged abort abortTable act step run resultOf cases
 cases-hold = refl
 
 -- the example of specs/Example.antt
 pub example-holds : exampleRun ≡ exampleExpected
-unfolding upFrom any all count filter fold accounts cardAt withCard word withWord withFields newTable hasWrites withSets actions hasLiveChild isRecordOf records walkUp isAtOrBelow hasReadInTime hasEndAlone isSoundAction sound storeCauses eventCauses causesOf causeOf nearest pairsWith clashesWith clashes least firstClash start startTable read readTable write writeTable commit commitTime commitCounter joinTable commitTable copyCards committedUnder judged abort abortTable act step run over lay put commitsAt laidAll stepped collectOne collectFrom unknown storeBlock scheduleOf shows settle written ended perform performAll serial example exampleRun exampleExpected
+unfolding upFrom any all count filter fold accounts cardAt withCard word withWord withFields newTable hasWrites withSets actions hasLiveChild isRecordOf records walkUp isAtOrBelow hasReadInTime hasEndAlone isSoundAction sound storeCauses eventCauses causesOf causeOf nearest movesUp pairsWith clashesWith clashes least firstClash start startTable read readTable write writeTable commit commitTime commitCounter joinTable commitTable copyCards committedUnder judged abort abortTable act step run over lay put commitsAt laidAll stepped collectOne collectFrom unknown storeBlock scheduleOf shows settle written ended perform performAll serial example exampleRun exampleExpected
 example-holds = refl
 
 -- the list of specs/InR.antt
 pub nested-holds : nestedInR ≡ nestedExpected
-unfolding upFrom any all count filter fold accounts cardAt withCard word withWord withFields newTable hasWrites withSets actions hasLiveChild isRecordOf records walkUp isAtOrBelow hasReadInTime hasEndAlone isSoundAction sound storeCauses eventCauses causesOf causeOf nearest pairsWith clashesWith clashes least firstClash start startTable read readTable write writeTable commit commitTime commitCounter joinTable commitTable copyCards committedUnder judged abort abortTable act step run put commitsAt noStarts withCommits withStartAt lineageOne lineageFrom lineageOf isInR nested nestedInR nestedExpected
+unfolding upFrom any all count filter fold accounts cardAt withCard word withWord withFields newTable hasWrites withSets actions hasLiveChild isRecordOf records walkUp isAtOrBelow hasReadInTime hasEndAlone isSoundAction sound storeCauses eventCauses causesOf causeOf nearest movesUp pairsWith clashesWith clashes least firstClash start startTable read readTable write writeTable commit commitTime commitCounter joinTable commitTable copyCards committedUnder judged abort abortTable act step run put commitsAt noStarts withCommits withStartAt lineageOne lineageFrom lineageOf isInR nested nestedInR nestedExpected
 nested-holds = refl

@@ -8,7 +8,7 @@ use Rattle.rules.specs.declared.Answer.the-variants.{Started, Read, Written, Co
 use Rattle.rules.specs.Card.{cardLength, baseLength, shadowLength, basePlace, cardAt}
 use Rattle.rules.specs.Table.{newTable, started, counter}
 use Rattle.rules.specs.Event.{Event, startUnder, readBy, writeBy, commitOf, abortOf}
-use Rattle.rules.specs.Look.{lookedCard}
+use Rattle.rules.specs.Look.{look, bytesOf}
 use Rattle.rules.specs.Ledger.{Ledger}
 use Rattle.rules.specs.Run.{run}
 
@@ -25,19 +25,30 @@ pub record Spot : Type 0 where
   pub action : ℕ
   pub account : ℕ
 
+-- what a look there gives: its cause, the card that it shows and the moves up to it
+pub record Shown : Type 0 where
+  pub cause : ℕ
+  pub card : List ℕ
+  pub moves : ℕ
+
+abbrev shown : Ledger → Spot → Shown
+shown s spot =
+    let looked = look (s .table) (s .base) (s .shadow) (spot .action) (spot .account) in
+    record { cause = looked .cause; card = bytesOf (s .base) (s .shadow) (looked .part); moves = looked .moves }
+
 -- what is asked of a case: its events, and which base cards and which looks to show after them
 pub record Question : Type 0 where
   pub events : List Event
   pub baseAccounts : List ℕ
   pub spots : List Spot
 
--- what it gives: every answer, the actions started, the counter, and the cards asked for
+-- what it gives: every answer, the actions started, the counter, and the cards and looks asked for
 pub record Result : Type 0 where
   pub answers : List Answer
   pub starts : ℕ
   pub count : ℕ
   pub baseCards : List (List ℕ)
-  pub looks : List (List ℕ)
+  pub looks : List Shown
 
 unfoldable pub resultOf : Question → Result
 resultOf q =
@@ -47,7 +58,7 @@ resultOf q =
       starts = started (ran .after .table);
       count = counter (ran .after .table);
       baseCards = map (λ k. cardAt (ran .after .base) (basePlace k)) (q .baseAccounts);
-      looks = map (λ spot. lookedCard (ran .after .table) (ran .after .base) (ran .after .shadow) (spot .action) (spot .account)) (q .spots);
+      looks = map (shown (ran .after)) (q .spots);
     }
 
 pub record Case : Type 0 where
@@ -57,9 +68,19 @@ pub record Case : Type 0 where
 abbrev asking : List Event → List ℕ → List Spot → Question
 asking es ks spots = record { events = es; baseAccounts = ks; spots = spots }
 
-abbrev giving : List Answer → ℕ → ℕ → List (List ℕ) → List (List ℕ) → Result
+abbrev giving : List Answer → ℕ → ℕ → List (List ℕ) → List Shown → Result
 giving answers starts count baseCards looks =
     record { answers = answers; starts = starts; count = count; baseCards = baseCards; looks = looks }
+
+abbrev at : ℕ → ℕ → Spot
+at n k = record { action = n; account = k }
+
+-- a look that shows a card of 32 bytes b, so many moves up, and one that is refused
+abbrev showing : ℕ → ℕ → Shown
+showing b moves = record { cause = 0; card = filledWith b; moves = moves }
+
+abbrev refusing : ℕ → Shown
+refusing cause = record { cause = cause; card = []; moves = 0 }
 
 abbrev case : Question → Result → Case
 case q r = record { question = q; expected = r }
@@ -81,7 +102,7 @@ cases =
     (asking
     (startUnder 0 ∷ startUnder 0 ∷ readBy 1 0 ∷ readBy 2 0 ∷ writeBy 1 0 (filledWith 1) ∷ commitOf 1 ∷ commitOf 2 ∷ []) [] [])
     (giving
-    (Started 1 ∷ Started 2 ∷ Read 0 ∷ Read 0 ∷ Written ∷ Committed 1 ∷ Failed 1 0 ∷ []) 2 1 [] [])
+    (Started 1 ∷ Started 2 ∷ Read 0 1 ∷ Read 0 1 ∷ Written ∷ Committed 1 ∷ Failed 1 0 ∷ []) 2 1 [] [])
     -- 5
     ∷ case
     (asking
@@ -93,9 +114,9 @@ cases =
     ∷ case
     (asking
     (startUnder 0 ∷ writeBy 1 3 (filledWith 1) ∷ startUnder 1 ∷ readBy 2 3 ∷ writeBy 2 3 (filledWith 2) ∷ abortOf 2 ∷ readBy 1 3 ∷ [])
-    [] (record { action = 1; account = 3 } ∷ []))
+    [] (at 1 3 ∷ []))
     (giving
-    (Started 1 ∷ Written ∷ Started 2 ∷ Read 1 ∷ Written ∷ Aborted 1 ∷ Read 1 ∷ []) 2 0 [] (filledWith 1 ∷ []))
+    (Started 1 ∷ Written ∷ Started 2 ∷ Read 1 1 ∷ Written ∷ Aborted 1 ∷ Read 1 0 ∷ []) 2 0 [] (showing 1 0 ∷ []))
     -- 7
     ∷ case
     (asking (startUnder 0 ∷ startUnder 1 ∷ readBy 1 0 ∷ commitOf 1 ∷ []) [] [])
@@ -105,19 +126,19 @@ cases =
     (asking
     (startUnder 0 ∷ startUnder 1 ∷ startUnder 1 ∷ readBy 3 4 ∷ writeBy 2 4 (filledWith 1) ∷ commitOf 2 ∷ commitOf 3 ∷ []) [] [])
     (giving
-    (Started 1 ∷ Started 2 ∷ Started 3 ∷ Read 0 ∷ Written ∷ Committed 1 ∷ Failed 1 4 ∷ []) 3 1 [] [])
+    (Started 1 ∷ Started 2 ∷ Started 3 ∷ Read 0 2 ∷ Written ∷ Committed 1 ∷ Failed 1 4 ∷ []) 3 1 [] [])
     ∷ case
     (asking
     (startUnder 0 ∷ startUnder 1 ∷ startUnder 1 ∷ writeBy 2 4 (filledWith 1) ∷ commitOf 2 ∷ readBy 3 4 ∷ commitOf 3 ∷ []) [] [])
     (giving
-    (Started 1 ∷ Started 2 ∷ Started 3 ∷ Written ∷ Committed 1 ∷ Read 1 ∷ Committed 0 ∷ []) 3 1 [] [])
+    (Started 1 ∷ Started 2 ∷ Started 3 ∷ Written ∷ Committed 1 ∷ Read 1 1 ∷ Committed 0 ∷ []) 3 1 [] [])
     -- 9
     ∷ case
     (asking
     (startUnder 0 ∷ startUnder 1 ∷ readBy 2 6 ∷ startUnder 0 ∷ writeBy 3 6 (filledWith 1) ∷ commitOf 3 ∷ startUnder 1 ∷ readBy 4 6
     ∷ commitOf 2 ∷ commitOf 4 ∷ commitOf 1 ∷ []) [] [])
     (giving
-    (Started 1 ∷ Started 2 ∷ Read 0 ∷ Started 3 ∷ Written ∷ Committed 1 ∷ Started 4 ∷ Read 0
+    (Started 1 ∷ Started 2 ∷ Read 0 2 ∷ Started 3 ∷ Written ∷ Committed 1 ∷ Started 4 ∷ Read 0 2
     ∷ Committed 0 ∷ Committed 0 ∷ Failed 1 6 ∷ []) 4 1 [] [])
     -- 10
     ∷ case
@@ -129,5 +150,14 @@ cases =
     (startUnder 0 ∷ startUnder 0 ∷ writeBy 1 2 (filledWith 1) ∷ readBy 1 2 ∷ writeBy 2 2 (filledWith 2) ∷ commitOf 2 ∷ commitOf 1 ∷ [])
     [] [])
     (giving
-    (Started 1 ∷ Started 2 ∷ Written ∷ Read 1 ∷ Written ∷ Committed 1 ∷ Failed 1 2 ∷ []) 2 1 [] [])
+    (Started 1 ∷ Started 2 ∷ Written ∷ Read 1 0 ∷ Written ∷ Committed 1 ∷ Failed 1 2 ∷ []) 2 1 [] [])
+    -- 14
+    ∷ case
+    (asking
+    (startUnder 0 ∷ writeBy 1 7 (filledWith 1) ∷ startUnder 1 ∷ startUnder 2 ∷ readBy 3 7 ∷ readBy 3 8 ∷ writeBy 3 8 (filledWith 2)
+    ∷ readBy 3 8 ∷ commitOf 3 ∷ readBy 2 8 ∷ [])
+    [] (at 2 7 ∷ at 2 8 ∷ at 2 9 ∷ at 1 7 ∷ []))
+    (giving
+    (Started 1 ∷ Written ∷ Started 2 ∷ Started 3 ∷ Read 1 2 ∷ Read 0 3 ∷ Written
+    ∷ Read 3 0 ∷ Committed 1 ∷ Read 2 0 ∷ []) 3 1 [] (showing 1 1 ∷ showing 2 0 ∷ showing 0 2 ∷ refusing 9 ∷ []))
     ∷ []

@@ -13,6 +13,7 @@ fn print_day(name: &[u8]) {
 fn main() {
     print_day(b"case-04.day");
     print_day(b"case-11.day");
+    print_day(b"case-14.day");
     print_day(b"fault-empty.day");
     print_day(b"fault-33-cards.day");
     print_day(b"fault-cards-cut.day");
@@ -27,6 +28,7 @@ fn main() {
     print_day(b"fault-cut-before-accounts.day");
     print_day(b"fault-too-long.day");
     print_day(b"deep.day");
+    print_day(b"moves-up.day");
     print_day(b"siblings-that-clash.day");
     print_day(b"siblings-that-only-write.day");
     print_day(b"all-opening-cards.day");

@@ -31,8 +31,8 @@ pub(crate) fn act(
         return Answer::Started(n);
     }
     if code == event::READ {
-        let holder = read(table, number, account);
-        return Answer::Read(holder);
+        let found = read(table, number, account);
+        return Answer::Read(found.holder, found.moves);
     }
     if code == event::WRITE {
         write(table, shadow, number, account, card);

@@ -8,12 +8,13 @@ use causes::cause::store_cause;
 use rules::cause::NONE;
 use rules::event::READ;
 use rules::store::CARD_LENGTH;
+use rules::table::NO_MOVES;
 use rules::table::STORE;
 use stores::place::base_place;
 use stores::place::shadow_place;
 
-// Back comes a part of the lent base or shadow slice, and in `cause` none; a refused look gives a part of no
-// bytes where the base slice begins, and in `cause` why.
+// Back comes a part of the lent base or shadow slice, in `cause` none, and in `moves` how many moves up the card was found;
+// a refused look gives a part of no bytes where the base slice begins, in `cause` why, and no moves.
 pub fn look<'a>(
     table: &[u64],
     base: &'a [u8],
@@ -21,15 +22,19 @@ pub fn look<'a>(
     n: u64,
     k: u64,
     cause: &mut u64,
+    moves: &mut u64,
 ) -> &'a [u8]
     ensures cause { λ r. ⌜ now (cause .exit)
         ≡ look (now (table .entry)) (now (base .entry)) (now (shadow .entry)) n k .cause ⌝ }
+    ensures moves { λ r. ⌜ now (moves .exit)
+        ≡ look (now (table .entry)) (now (base .entry)) (now (shadow .entry)) n k .moves ⌝ }
     ensures bytes { λ r. ⌜ now r
         ≡ lookedCard (now (table .entry)) (now (base .entry)) (now (shadow .entry)) n k ⌝ }
     ensures place { λ r. ⌜ IsPart (base .entry) (shadow .entry)
         (look (now (table .entry)) (now (base .entry)) (now (shadow .entry)) n k .part) r ⌝ }
 {
     let empty = &base[0..0];
+    *moves = NO_MOVES;
     let outer = store_cause(table, base, shadow);
     if outer != NONE {
         *cause = outer;
@@ -41,7 +46,9 @@ pub fn look<'a>(
         return empty;
     }
     *cause = NONE;
-    let holder = nearest(table, n, k);
+    let found = nearest(table, n, k);
+    *moves = found.moves;
+    let holder = found.holder;
     if holder == STORE {
         let from = base_place(k);
         let to = from + CARD_LENGTH;

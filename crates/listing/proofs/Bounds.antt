@@ -10,7 +10,7 @@ use lib.ListN.{length, getD, length-append}
 use Rattle.rules.specs.Encoding.{mostEvents, answerLength, refusedKind, startedKind, readKind, writtenKind, committedKind, failedKind}
 use Rattle.rules.proofs.Laws.Tests.{cond-holds}
 use Rattle.listing.specs.Listing.{spaced, endLine, refusedLine}
-use Rattle.listing.specs.Buffer.{wordOf, numbersOf, textOf, lineOf, linesOf, listingLength}
+use Rattle.listing.specs.Buffer.{wordOf, hasTwoNumbers, numbersOf, textOf, lineOf, linesOf, listingLength}
 use Rattle.listing.proofs.Decimals.{placeDigits, decimal-bound, place-bound}
 use Rattle.listing.proofs.Pieces.{line-length, end-length}
 
@@ -44,7 +44,7 @@ unfolding numbersOf spaced
 numbers-bound kind first second =
     either (λ (numbers : List ℕ). length (spaced numbers) ≤ numbersLength) (eqb kind writtenKind)
     (lit≤ tt)
-    (either (λ (numbers : List ℕ). length (spaced (first ∷ numbers)) ≤ numbersLength) (eqb kind failedKind)
+    (either (λ (numbers : List ℕ). length (spaced (first ∷ numbers)) ≤ numbersLength) (hasTwoNumbers kind)
     (simp length-append (omega (arith, decimal-bound first, decimal-bound second)))
     (simp length-append (omega (arith, decimal-bound first))))
 

@@ -5,12 +5,13 @@ use native.Mathlib.Nat.{zero-add, add-zero}
 use native.Mathlib.Omega.{arith}
 use native.Mathlib.Numerals.{add-one, one-add}
 use mathlib.Core.Path.{_≡_, ap, _∙_}
+use mathlib.Core.Bool.{true, false}
 use mathlib.Core.List.{List, [], _∷_, _++_, append-nil, append-assoc}
 use lib.ListN.{length, getD, length-append}
 use borrow.Author.Tests.{eq-eqb, ne-eqb}
-use Rattle.rules.specs.Encoding.{answerLength, failedKind, writtenKind}
+use Rattle.rules.specs.Encoding.{answerLength, writtenKind}
 use Rattle.listing.specs.Listing.{decimal, spaced, endLine, space, lineFeed, endWord}
-use Rattle.listing.specs.Buffer.{wordOf, numbersOf, textOf, lineOf, linesOf}
+use Rattle.listing.specs.Buffer.{wordOf, hasTwoNumbers, numbersOf, textOf, lineOf, linesOf}
 
 pub spaced-one : (n : ℕ) → spaced (n ∷ []) ≡ space ∷ decimal n
 unfolding spaced
@@ -26,15 +27,18 @@ module _ (kind first second : ℕ) where
   unfolding textOf numbersOf spaced
   text-written e = rw (eq-eqb kind writtenKind e, append-nil)
 
-  -- failed: the word and both numbers
-  pub text-failed : kind ≡ failedKind → textOf kind first second ≡ wordOf kind ++ (space ∷ decimal first) ++ (space ∷ decimal second)
+  -- read and failed: the word and both numbers
+  pub text-two :
+      (kind ≡ writtenKind → ⊥) → hasTwoNumbers kind ≡ true →
+      textOf kind first second ≡ wordOf kind ++ (space ∷ decimal first) ++ (space ∷ decimal second)
   unfolding textOf numbersOf
-  text-failed e = rw (ne-eqb kind writtenKind (omega arith), eq-eqb kind failedKind e, spaced-two first second, append-assoc)
+  text-two not-written two = rw (ne-eqb kind writtenKind not-written, two, spaced-two first second, append-assoc)
 
   -- any other answer: the word and the first number
-  pub text-other : (kind ≡ writtenKind → ⊥) → (kind ≡ failedKind → ⊥) → textOf kind first second ≡ wordOf kind ++ (space ∷ decimal first)
+  pub text-one :
+      (kind ≡ writtenKind → ⊥) → hasTwoNumbers kind ≡ false → textOf kind first second ≡ wordOf kind ++ (space ∷ decimal first)
   unfolding textOf numbersOf
-  text-other not-written not-failed = rw (ne-eqb kind writtenKind not-written, ne-eqb kind failedKind not-failed, spaced-one first)
+  text-one not-written one = rw (ne-eqb kind writtenKind not-written, one, spaced-one first)
 
   -- there is room for the word, and unless the answer is written for the first number
   pub word-fits : length (wordOf kind) ≤ length (textOf kind first second)

@@ -1,7 +1,7 @@
 -- A listing's buffer, and its lines from answers as they lie in words. Assumes nothing.
 use Prim.Native.Nat.{ℕ, zero, suc, _+_, _*_, _≤_}
 use mathlib.Core.Path.{_≡_}
-use mathlib.Core.Bool.{cond}
+use mathlib.Core.Bool.{Bool, cond, _||_}
 use mathlib.Core.List.{List, [], _∷_, _++_}
 use lib.Dec.{eqb}
 use lib.ListN.{length, take, drop, getD}
@@ -31,15 +31,18 @@ unfoldable pub wordOf : ℕ → List ℕ
 wordOf kind =
     cond (eqb kind refusedKind) (said (Refused 0) .word)
     (cond (eqb kind startedKind) (said (Started 0) .word)
-    (cond (eqb kind readKind) (said (Read 0) .word)
+    (cond (eqb kind readKind) (said (Read 0 0) .word)
     (cond (eqb kind writtenKind) (said Written .word)
     (cond (eqb kind committedKind) (said (Committed 0) .word)
     (cond (eqb kind failedKind) (said (Failed 0 0) .word)
     (said (Aborted 0) .word))))))
 
--- written has no number, failed has two, every other answer one
+-- read and failed have two numbers, written none, every other answer one
+abbrev pub hasTwoNumbers : ℕ → Bool
+hasTwoNumbers kind = eqb kind readKind || eqb kind failedKind
+
 unfoldable pub numbersOf : ℕ → ℕ → ℕ → List ℕ
-numbersOf kind first second = cond (eqb kind writtenKind) [] (first ∷ cond (eqb kind failedKind) (second ∷ []) [])
+numbersOf kind first second = cond (eqb kind writtenKind) [] (first ∷ cond (hasTwoNumbers kind) (second ∷ []) [])
 
 unfoldable pub textOf : ℕ → ℕ → ℕ → List ℕ
 textOf kind first second = wordOf kind ++ spaced (numbersOf kind first second)

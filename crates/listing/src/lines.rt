@@ -3,7 +3,7 @@ ghost use mathlib.Core.Path.{_≡_};
 ghost use Prim.Native.Nat.{_+_, _≤_};
 ghost use lib.ListN.{length};
 ghost use Rattle.listing.specs.Listing.{endLine, refusedLine};
-ghost use Rattle.listing.specs.Buffer.{IsListingBuffer, HasAnswers, putAt, wordOf, textOf, lineOf, linesOf, listingOf};
+ghost use Rattle.listing.specs.Buffer.{IsListingBuffer, HasAnswers, putAt, wordOf, hasTwoNumbers, textOf, lineOf, linesOf, listingOf};
 use crate::text::put_byte;
 use crate::text::put_number;
 use crate::text::put_spaced;
@@ -27,6 +27,15 @@ fn put_word(out: &mut [u8], at: usize, kind: u64) -> usize
     }
 }
 
+fn has_two_numbers(kind: u64) -> bool
+    ensures { λ r. ⌜ r ≡ hasTwoNumbers kind ⌝ }
+{
+    if kind == kind::READ {
+        return true;
+    }
+    kind == kind::FAILED
+}
+
 fn put_answer(out: &mut [u8], at: usize, kind: u64, first: u64, second: u64) -> usize
     requires { ⌜ at + length (textOf kind first second) ≤ length (now out) ⌝ }
     ensures next { λ r. ⌜ r ≡ at + length (textOf kind first second) ⌝ }
@@ -37,7 +46,7 @@ fn put_answer(out: &mut [u8], at: usize, kind: u64, first: u64, second: u64) -> 
         return after;
     }
     let one = put_spaced(out, after, first);
-    if kind == kind::FAILED {
+    if has_two_numbers(kind) {
         return put_spaced(out, one, second);
     }
     one

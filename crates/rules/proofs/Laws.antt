@@ -16,3 +16,4 @@ pub mod EventCases
 pub mod Permitted
 pub mod Climbing
 pub mod Walking
+pub mod Versions

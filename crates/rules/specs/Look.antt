@@ -4,10 +4,11 @@ use mathlib.Core.Bool.{true, false, not, cond}
 use mathlib.Core.List.{List, [], _∷_}
 use lib.Dec.{eqb}
 use lib.ListN.{take, drop}
+use Rattle.rules.specs.declared.Version.{Version}
 use Rattle.rules.specs.Card.{cardLength, basePlace, shadowPlace}
 use Rattle.rules.specs.Sound.{sound}
 use Rattle.rules.specs.Cause.{firstCause, storeLengthCause, isStoreLengthWrong, unsoundCause, numberCause, isNumberUnknown, notLiveCause, isNotLive, accountCause, isAccountUnknown, childLiveCause, isChildLive}
-use Rattle.rules.specs.Nearest.{nearest}
+use Rattle.rules.specs.Nearest.{version}
 
 -- RULES 8.3: its causes, which are a read's (proofs/Stores/Looking.antt)
 unfoldable pub lookCause : List ℕ → List ℕ → List ℕ → ℕ → ℕ → ℕ
@@ -31,10 +32,11 @@ pub record Part : Type 0 where
   pub place : ℕ
   pub size : ℕ
 
--- what a look gives: its cause, 0 where it has none, and a part
+-- what a look gives: its cause, 0 where it has none, a part, and the moves up to the version that the part is of
 pub record Looked : Type 0 where
   pub cause : ℕ
   pub part : Part
+  pub moves : ℕ
 
 -- the part of a refused look
 abbrev pub emptyPart : Part
@@ -47,12 +49,17 @@ cardPart n k =
     (record { store = inBase; place = basePlace k; size = cardLength })
     (record { store = inShadow; place = shadowPlace n k; size = cardLength })
 
+-- a look that shows version v of account k, and one that is refused
+abbrev pub lookAt : Version → ℕ → Looked
+lookAt v k = record { cause = 0; part = cardPart (v .holder) k; moves = v .moves }
+
+abbrev pub lookRefused : ℕ → Looked
+lookRefused cause = record { cause = cause; part = emptyPart; moves = 0 }
+
 unfoldable pub look : List ℕ → List ℕ → List ℕ → ℕ → ℕ → Looked
 look w base shadow n k =
     let cause = lookCause w base shadow n k in
-    cond (eqb cause 0)
-    (record { cause = 0; part = cardPart (nearest w n k) k })
-    (record { cause = cause; part = emptyPart })
+    cond (eqb cause 0) (lookAt (version w n k) k) (lookRefused cause)
 
 -- the bytes of a part, by the store that it is of
 abbrev pub bytesIn : List ℕ → List ℕ → Store → List ℕ

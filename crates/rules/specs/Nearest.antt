@@ -1,10 +1,35 @@
--- RULES 3.1: the nearest version of an account. Assumes nothing.
-use Prim.Native.Nat.{ℕ}
-use mathlib.Core.Bool.{cond}
+-- RULES 3.1: the nearest version of an account: its holder, and how many moves up lead there. Assumes nothing.
+use Prim.Native.Nat.{ℕ, zero, suc, _<_}
+use mathlib.Core.Path.{_≡_}
+use mathlib.Core.Logic.{_≢_}
+use mathlib.Core.Bool.{true, false, cond}
 use mathlib.Core.List.{List}
+use Rattle.rules.specs.declared.Version.{Version}
 use Rattle.rules.specs.Table.{mostActions, parentOf, hasWritten}
 use Rattle.rules.specs.Walk.{walkUp}
 
 -- its holder, seen from action n: the number of the action whose own card it is, 0 where it is the base card
 unfoldable pub nearest : List ℕ → ℕ → ℕ → ℕ
 nearest w n k = walkUp (parentOf w) 0 (λ m above. cond (hasWritten w m k) m above) mostActions n
+
+-- the moves up from action n to that holder, the one from a topaction to the store included
+unfoldable pub movesUp : List ℕ → ℕ → ℕ → ℕ
+movesUp w n k = walkUp (parentOf w) 0 (λ m above. cond (hasWritten w m k) 0 (suc above)) mostActions n
+
+-- both belong to one version
+abbrev pub version : List ℕ → ℕ → ℕ → Version
+version w n k = record { holder = nearest w n k; moves = movesUp w n k }
+
+-- ---- what the moves say, with no walk in it; proofs/Laws/Versions.antt proves it of `version`
+
+-- where so many moves up lead from n
+unfoldable pub climbed : List ℕ → ℕ → ℕ → ℕ
+climbed w zero n = n
+climbed w (suc moves) n = climbed w moves (parentOf w n)
+
+-- v is the nearest version of account k seen from n: its moves lead to its holder, which is the store or has written k, and
+-- fewer moves lead only to actions that haven't
+pub record IsNearest (w : List ℕ) (n k : ℕ) (v : Version) : Type 0 where
+  pub leads : climbed w (v .moves) n ≡ v .holder
+  pub holds : v .holder ≢ 0 → hasWritten w (v .holder) k ≡ true
+  pub passes : (m : ℕ) → m < v .moves → (climbed w m n ≢ 0) × (hasWritten w (climbed w m n) k ≡ false)

@@ -12,7 +12,7 @@ use Rattle.rules.specs.Table.{live, committed, aborted, started, withSta
 use Rattle.rules.specs.Walk.{isAtOrBelow}
 use Rattle.rules.specs.Event.{Event, isStart, isRead, isWrite, isCommit}
 use Rattle.rules.specs.Cause.{causeOf}
-use Rattle.rules.specs.Nearest.{nearest}
+use Rattle.rules.specs.Nearest.{version}
 use Rattle.rules.specs.declared.Found.{Found}
 use Rattle.rules.specs.declared.Found.the-variants.{Nothing, At}
 use Rattle.rules.specs.Clash.{firstClash}
@@ -42,7 +42,9 @@ unfoldable pub readTable : List ℕ → ℕ → ℕ → List ℕ
 readTable w n k = cond (hasRead w n k) w (withRead w n k (counter w + 1))
 
 unfoldable pub read : Ledger → ℕ → ℕ → Outcome
-read s n k = record { answer = Read (nearest (s .table) n k); after = withTable s (readTable (s .table) n k) }
+read s n k =
+    let found = version (s .table) n k in
+    record { answer = Read (found .holder) (found .moves); after = withTable s (readTable (s .table) n k) }
 
 -- ---- RULES 2.4: write
 

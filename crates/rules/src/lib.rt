@@ -1,4 +1,5 @@
-// What the rules say in types and numbers: answers, the outcome of a clash search, and every size, place and code by name.
+// What the rules say in types and numbers: answers, versions, the outcome of a clash search, and every size, place and code by
+// name.
 // The definitions of specs/ are the rules themselves; nothing here computes.
 pub mod cause;
 pub mod day;
@@ -12,8 +13,8 @@ pub mod table;
 pub enum Answer {
     // the number that the new action got
     Started(u64),
-    // the holder of the nearest version
-    Read(u64),
+    // the holder of the nearest version, and the moves up to it
+    Read(u64, u64),
     Written,
     // the end time, 0 where nothing was written
     Committed(u64),
@@ -23,6 +24,14 @@ pub enum Answer {
     Aborted(u64),
     // the number of the cause
     Refused(u64),
+}
+
+// RULES 3.1: the nearest version of an account, seen from an action.
+pub struct Version {
+    // the action whose own card it is, or the store
+    pub holder: u64,
+    // how many moves up lead to it, the one to the store included
+    pub moves: u64,
 }
 
 // RULES 4: the first clash of an action that asks to commit.

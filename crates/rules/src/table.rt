@@ -26,6 +26,9 @@ pub const READ_FIELDS: u64 = 3;
 
 pub const WRITE_FIELDS: u64 = 35;
 
+// The moves up to a version that is where one stands, and those of a refused look.
+pub const NO_MOVES: u64 = 0;
+
 // The entry of an account that is in neither set, and that of one in a write set.
 pub const NO_ENTRY: u64 = 0;
 

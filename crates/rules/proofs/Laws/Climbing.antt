@@ -33,6 +33,11 @@ module _ (parent : ℕ → ℕ) where
   climbs-more (suc moves) n up =
       ⊎-elim (or-inl _) (λ above. or-inr (eqb n 0) (climbs-more moves (parent n) above)) (or-cases (eqb n 0) _ up)
 
+  -- where the store is reached from an action, it is from the action's parent
+  pub climbs-above : (moves n : ℕ) → n ≢ 0 → climbs parent moves n ≡ true → climbs parent moves (parent n) ≡ true
+  climbs-above zero n action up = absurd (action (climbs-nowhere n up))
+  climbs-above (suc moves) n action up = climbs-more moves (parent n) (climbs-parent moves n action up)
+
   -- where parents fall, an action's number is moves enough
   pub falling-climbs :
       (last : ℕ) → ((m : ℕ) → (1 ≤ m) × (m ≤ last) → parent m < m) → (moves n : ℕ) → n ≤ last → n ≤ moves →

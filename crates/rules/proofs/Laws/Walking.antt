@@ -13,7 +13,7 @@ use Rattle.rules.specs.Walk.{walkUp, isAtOrBelow}
 use Rattle.rules.specs.Nearest.{nearest}
 use Rattle.rules.specs.Sound.{IsStarted, Sound}
 use Rattle.rules.proofs.Laws.Tests.{or-inl, or-neither, cond-holds}
-use Rattle.rules.proofs.Laws.Climbing.{climbs, climbs-nowhere, climbs-parent, climbs-more, falling-climbs}
+use Rattle.rules.proofs.Laws.Climbing.{climbs, climbs-nowhere, climbs-parent, climbs-more, climbs-above, falling-climbs}
 
 -- ---- any walk
 
@@ -39,6 +39,17 @@ module _ {A : Type 0} (parent : ℕ → ℕ) (top : A) (here : ℕ → A → A) 
       (λ e.
       let ne = eqb-false n 0 e in
       action n ne _ (walk-holds P store action moves (parent n) (climbs-parent parent moves n ne up)))
+
+-- What counts at most one for each action counts no more than there are moves.
+pub walk-counts :
+    (parent : ℕ → ℕ) (here : ℕ → ℕ → ℕ) → ((m above : ℕ) → here m above ≤ suc above) →
+    (moves n : ℕ) → walkUp parent 0 here moves n ≤ moves
+unfolding walkUp
+walk-counts parent here one zero n = omega arith
+walk-counts parent here one (suc moves) n =
+    cond-holds (λ x. x ≤ suc moves) (eqb n 0)
+    (λ e. omega arith)
+    (λ e. omega (arith, one n (walkUp parent 0 here moves (parent n)), walk-counts parent here one moves (parent n)))
 
 -- Two walks from n agree where, on n and what is above it, their parents agree and what they make of an action does. `On` holds
 -- of all these. Each bound reaches the store; they need not be the same.
@@ -86,6 +97,15 @@ module _ {A : Type 0} (parent : ℕ → ℕ) (top : A) (here : ℕ → A → A) 
 abbrev pub Climbs : List ℕ → ℕ → Type 0
 Climbs w n = climbs (parentOf w) mostActions n ≡ true
 
+-- What holds of the store, and of an action where it holds of its parent, holds wherever the store is reached from.
+pub climb-holds :
+    (w : List ℕ) (P : ℕ → Type 0) → P 0 → ((m : ℕ) → m ≢ 0 → Climbs w m → P (parentOf w m) → P m) → (n : ℕ) → Climbs w n → P n
+climb-holds w P store action n up =
+    walk-holds {A = Unit {0}} (parentOf w) tt (λ m above. tt) (λ m _. Climbs w m → P m)
+    (λ _. store)
+    (λ m ne _ above from. action m ne from (above (climbs-above (parentOf w) mostActions m ne from)))
+    mostActions n up up
+
 -- each started action has its parent below it
 abbrev pub Falls : List ℕ → Type 0
 Falls w = (m : ℕ) → IsStarted w m → parentOf w m < m
@@ -104,6 +124,10 @@ sound-climbs {w} s = started-climbs w (s .few) (s .below)
 
 unfoldable pub depth : List ℕ → ℕ → ℕ
 depth w n = walkUp (parentOf w) 0 (λ m above. suc above) mostActions n
+
+pub depth-store : (w : List ℕ) → depth w 0 ≡ 0
+unfolding depth
+depth-store w = walk-store _ _ _ mostActions
 
 pub depth-step : (w : List ℕ) (n : ℕ) → n ≢ 0 → Climbs w n → depth w n ≡ suc (depth w (parentOf w n))
 unfolding depth

@@ -1,5 +1,5 @@
 -- `look` meets its contract: its causes are those of a read, and where there is none the nearest version is a whole
--- card inside one of the stores. Assumes nothing.
+-- card inside one of the stores, found by the one walk that counts the moves. Assumes nothing.
 use Prim.Native.Nat.{ℕ, _+_, _-_, _≤_}
 use native.Mathlib.Omega.{arith}
 use mathlib.Core.Path.{_≡_, refl, sym, _∙_, ap}
@@ -11,9 +11,10 @@ use borrow.Author.Needs.{needs}
 use borrow.Author.Tests.{ne-eqb}
 use Rattle.rules.specs.Card.{cardLength}
 use Rattle.rules.specs.Table.{mostActions}
-use Rattle.rules.specs.Nearest.{nearest}
+use Rattle.rules.specs.declared.Version.{Version}
+use Rattle.rules.specs.Nearest.{version}
 use Rattle.rules.specs.Event.{readBy}
-use Rattle.rules.specs.Look.{lookCause, look, emptyPart}
+use Rattle.rules.specs.Look.{lookCause, look, lookAt, lookRefused}
 use Rattle.rules.proofs.Laws.Allowed.{Allowed, allowed}
 use Rattle.rules.proofs.Laws.Walking.{nearest-started}
 use Rattle.rules.proofs.Sound.Soundness.{facts}
@@ -22,12 +23,18 @@ use Rattle.causes.proofs.Grouped.{Accepted, stores-accepted, event-refused, eve
 use Rattle.engine.proofs.look.look.Statement.{statement}
 use Rattle.engine.proofs.look.look.Tie as tie
 
--- a look that has a cause gives it, and the empty part
+-- a look that has a cause gives it, the empty part and no moves
 refused :
     (w base shadow : List ℕ) (n k cause : ℕ) → lookCause w base shadow n k ≡ cause → cause ≢ 0 →
-    look w base shadow n k ≡ record { cause = cause; part = emptyPart }
+    look w base shadow n k ≡ lookRefused cause
 refused w base shadow n k cause is given =
-    look-refused w base shadow n k (λ none. given (sym is ∙ none)) ∙ ap (λ x. record { cause = x; part = emptyPart }) is
+    look-refused w base shadow n k (λ none. given (sym is ∙ none)) ∙ ap lookRefused is
+
+-- and one that has none shows the version that was found
+shown :
+    (w base shadow : List ℕ) (n k : ℕ) (found : Version) → lookCause w base shadow n k ≡ 0 → found ≡ version w n k →
+    look w base shadow n k ≡ lookAt found k
+shown w base shadow n k found none is = look-given w base shadow n k none ∙ ap (λ v. lookAt v k) (sym is)
 
 -- a part of 32 bytes has a card's length, wherever it starts
 card-size : (from : ℕ) → from + cardLength - from ≡ cardLength
@@ -61,7 +68,7 @@ cause-given c =
 returns : tie.Need-returns
 returns c =
     rw (refused _ _ _ _ _ _ (cause-given c) (c .if1 .taken))
-    (refl, (refl, record { points = refl; size = refl }))
+    (refl, (refl, (refl, record { points = refl; size = refl })))
 
 -- behind the first test the stores fit and the table is sound
 accepted :
@@ -89,15 +96,19 @@ read-allowed c = allowed _ _ _ _ (sym (look-refused-as-read _ _ _ _ _ _) ∙ cau
 returns-2 : tie.Need-returns-2
 returns-2 c =
     rw (refused _ _ _ _ _ _ (cause-asked (c .before)) (c .if2 .taken))
-    (refl, (refl, record { points = refl; size = refl }))
+    (refl, (refl, (refl, record { points = refl; size = refl })))
 
 -- the nearest version is the store's, or that of an action
-holder-known : (c : tie.After-nearest) → c .nearest .result ≤ mostActions
+holder-known : (c : tie.After-nearest) → c .nearest .result .holder ≤ mostActions
 holder-known c =
     let args = c .before .before .before .before .before .before .before .before .before .args in
     let read = read-allowed (c .before) in
     let sound = facts (args .table .now) (read .soundTest) in
-    omega (arith, nearest-started (args .table .now) sound (args .n) (args .k) (read .numberKnown), c .nearest .ensures)
+    omega (
+      arith,
+      nearest-started (args .table .now) sound (args .n) (args .k) (read .numberKnown),
+      ap (λ found. found .holder) (c .nearest .ensures),
+    )
 
 nearest-requires : tie.Need-nearest-requires
 nearest-requires c κs =
@@ -130,14 +141,13 @@ returns-3 c =
     let args = c .before .before .before .before .before .before .before .before .before .before .before .before .args in
     let none = cause-asked (c .before .before .before .before .before) ∙ c .before .before .before .before .if2 .left in
     let found = c .before .before .before .nearest in
-    let top : nearest (args .table .now) (args .n) (args .k) ≡ 0 = sym (found .ensures) ∙ c .before .before .if3 .taken in
     rw (
-      look-given (args .table .now) (args .base .now) (args .shadow .now) (args .n) (args .k) none,
-      top,
+      shown (args .table .now) (args .base .now) (args .shadow .now) (args .n) (args .k) (found .result) none (found .ensures),
+      c .before .before .if3 .taken,
       ← c .before .base-place .ensures,
       card-size,
     )
-    (refl, (refl, record { points = refl; size = whole _ _ (part-result-end (c .before)) }))
+    (refl, (refl, (refl, record { points = refl; size = whole _ _ (part-result-end (c .before)) })))
 
 shadow-place-requires : tie.Need-shadow-place-requires
 shadow-place-requires c κs =
@@ -172,14 +182,14 @@ returns-4 : tie.Need-returns-4
 returns-4 c =
     let args = c .before .before .before .before .before .before .before .before .before .before .before .before .args in
     let none = cause-asked (c .before .before .before .before .before) ∙ c .before .before .before .before .if2 .left in
+    let found = c .before .before .before .nearest in
     rw (
-      look-given (args .table .now) (args .base .now) (args .shadow .now) (args .n) (args .k) none,
-      ← c .before .before .before .nearest .ensures,
-      ne-eqb (c .before .before .before .nearest .result) 0 (c .before .before .if3 .left),
+      shown (args .table .now) (args .base .now) (args .shadow .now) (args .n) (args .k) (found .result) none (found .ensures),
+      ne-eqb (found .result .holder) 0 (c .before .before .if3 .left),
       ← c .before .shadow-place .ensures,
       card-size,
     )
-    (refl, (refl, record { points = refl; size = whole _ _ (part-result-end-2 (c .before)) }))
+    (refl, (refl, (refl, record { points = refl; size = whole _ _ (part-result-end-2 (c .before)) })))
 
 pub look-spec : {M : Type 1} → statement M
 look-spec =
