@@ -1,2 +1,2 @@
--- What a walk up the parents asks of its caller.
+-- What a walk up the parents asks of its caller, and how it counts.
 pub mod Ancestry

@@ -32,4 +32,4 @@ climbed w (suc moves) n = climbed w moves (parentOf w n)
 pub record IsNearest (w : List ℕ) (n k : ℕ) (v : Version) : Type 0 where
   pub leads : climbed w (v .moves) n ≡ v .holder
   pub holds : v .holder ≢ 0 → hasWritten w (v .holder) k ≡ true
-  pub passes : (m : ℕ) → m < v .moves → (climbed w m n ≢ 0) × (hasWritten w (climbed w m n) k ≡ false)
+  pub fewer : (m : ℕ) → m < v .moves → (climbed w m n ≢ 0) × (hasWritten w (climbed w m n) k ≡ false)

@@ -1,5 +1,5 @@
--- The moves up to the nearest version: from the action and its parent, at most as many as there are actions, and what the
--- clerks ask of them. Assumes nothing.
+-- The moves up to the nearest version: how they follow from the action and its parent, that they are at most as many as there
+-- are actions, and what they mean. Assumes nothing.
 use Prim.Native.Nat.{ℕ, zero, suc, _+_, _≤_, _<_}
 use native.Mathlib.Omega.{arith}
 use mathlib.Core.Path.{_≡_, refl, sym, ap, ap₂, _∙_}
@@ -11,7 +11,7 @@ use Rattle.rules.specs.Table.{mostActions, started, parentOf, hasWritten
 use Rattle.rules.specs.Nearest.{nearest, movesUp, version, climbed, IsNearest}
 use Rattle.rules.specs.Sound.{Sound}
 use Rattle.rules.proofs.Laws.Tests.{cond-holds}
-use Rattle.rules.proofs.Laws.Walking.{walk-store, walk-step, walk-counts, Climbs, climb-holds, sound-climbs, depth, depth-store, depth-step, nearest-store, nearest-step, nearest-written}
+use Rattle.rules.proofs.Laws.Walking.{walk-store, walk-step, walk-counts, Climbs, climb-holds, sound-climbs, depth, depth-store, depth-step, nearest-store, nearest-step}
 
 module _ (w : List ℕ) (k : ℕ) where
   pub movesUp-store : movesUp w 0 k ≡ 0
@@ -28,19 +28,19 @@ module _ (w : List ℕ) (k : ℕ) where
       walk-counts _ _ (λ m above. cond-holds (λ x. x ≤ suc above) (hasWritten w m k) (λ _. omega arith) (λ _. omega arith))
       mostActions
 
-  -- what fewer moves lead to, at an action that has not written the account
-  passed :
+  -- what fewer moves lead to from an action that has not written the account
+  fewer-above :
       (n : ℕ) → n ≢ 0 → hasWritten w n k ≡ false → IsNearest w (parentOf w n) k (version w (parentOf w n) k) →
       (m : ℕ) → m < suc (movesUp w (parentOf w n) k) → (climbed w m n ≢ 0) × (hasWritten w (climbed w m n) k ≡ false)
   unfolding climbed
-  passed n ne other above zero h = (ne, other)
-  passed n ne other above (suc m) h = above .passes m (omega arith)
+  fewer-above n ne unwritten above zero h = (ne, unwritten)
+  fewer-above n ne unwritten above (suc m) h = above .fewer m (omega arith)
 
   store-nearest : IsNearest w 0 k (version w 0 k)
   unfolding climbed
   store-nearest =
       rw (nearest-store w k, movesUp-store)
-      (record { leads = refl; holds = λ action. absurd (action refl); passes = λ m h. absurd (omega arith) })
+      (record { leads = refl; holds = λ action. absurd (action refl); fewer = λ m h. absurd (omega arith) })
 
   action-nearest :
       (n : ℕ) → n ≢ 0 → Climbs w n → IsNearest w (parentOf w n) k (version w (parentOf w n) k) → IsNearest w n k (version w n k)
@@ -51,8 +51,8 @@ module _ (w : List ℕ) (k : ℕ) where
       go :
           (own : Bool) → hasWritten w n k ≡ own →
           IsNearest w n k (record { holder = cond own n (nearest w (parentOf w n) k); moves = cond own 0 (suc (movesUp w (parentOf w n) k)) })
-      go true own = record { leads = refl; holds = λ _. own; passes = λ m h. absurd (omega arith) }
-      go false other = record { leads = above .leads; holds = above .holds; passes = passed n ne other above }
+      go true own = record { leads = refl; holds = λ _. own; fewer = λ m h. absurd (omega arith) }
+      go false unwritten = record { leads = above .leads; holds = above .holds; fewer = fewer-above n ne unwritten above }
 
 -- RULES 3.1: on a sound table, seen from the store or any action, the version is the nearest by its meaning
 pub version-nearest : (w : List ℕ) → Sound w → (n k : ℕ) → n ≤ started w → IsNearest w n k (version w n k)
@@ -60,8 +60,8 @@ version-nearest w s n k known =
     climb-holds w (λ m. IsNearest w m k (version w m k)) (store-nearest w k) (action-nearest w k) n (sound-climbs s n known)
 
 fewer-not-nearest : {w : List ℕ} {n k : ℕ} {v u : Version} → IsNearest w n k v → IsNearest w n k u → u .moves < v .moves → ⊥
-fewer-not-nearest {w} {n} {k} {v} {u} a b fewer =
-    let past = a .passes (u .moves) fewer in
+fewer-not-nearest {w} {n} {k} {v} {u} a b less =
+    let past = a .fewer (u .moves) less in
     let here : (u .holder ≢ 0) × (hasWritten w (u .holder) k ≡ false) = rw (b .leads) at past in
     true≢false (sym (b .holds (here .0)) ∙ here .1)
 

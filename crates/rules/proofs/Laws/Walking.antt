@@ -144,15 +144,6 @@ module _ (w : List ℕ) (n k : ℕ) where
   unfolding nearest
   nearest-step = walk-step _ _ _ mostActions n
 
-  -- an action that is the nearest version has the account in its write set
-  pub nearest-written : Climbs w n → nearest w n k ≢ 0 → hasWritten w (nearest w n k) k ≡ true
-  unfolding nearest
-  nearest-written =
-      walk-holds _ _ _ (λ m near. near ≢ 0 → hasWritten w near k ≡ true)
-      (λ ne. absurd (ne refl))
-      (λ m _ near written. cond-holds (λ x. x ≢ 0 → hasWritten w x k ≡ true) (hasWritten w m k) (λ e ne. e) (λ e. written))
-      mostActions n
-
 -- it is the store, or an action that has started
 pub nearest-started : (w : List ℕ) → Sound w → (n k : ℕ) → n ≤ started w → nearest w n k ≤ started w
 unfolding nearest

@@ -13,7 +13,7 @@ use Rattle.rules.specs.Table.{mostActions}
 use Rattle.rules.specs.Event.{readCode, readBy}
 use Rattle.rules.specs.Cause.{storeCauses, eventCauses, causesOf, causeOf}
 use Rattle.rules.specs.Nearest.{nearest, version}
-use Rattle.rules.specs.Look.{Looked, lookCause, Part, lookAt, lookRefused, look, bytesIn}
+use Rattle.rules.specs.Look.{Looked, lookCause, Part, emptyPart, lookAt, look, bytesIn}
 use Rattle.rules.proofs.Laws.Tests.{cond-holds}
 use Rattle.rules.proofs.Laws.Walking.{nearest-started}
 use Rattle.rules.proofs.Sound.Soundness.{facts}
@@ -30,7 +30,7 @@ look-refused-as-read w base shadow n k card = refl
 -- RULES 3.2: refused
 pub look-refused :
     (w base shadow : List ℕ) (n k : ℕ) → lookCause w base shadow n k ≢ 0 →
-    look w base shadow n k ≡ lookRefused (lookCause w base shadow n k)
+    look w base shadow n k ≡ record { cause = lookCause w base shadow n k; part = emptyPart; moves = 0 }
 unfolding look
 look-refused w base shadow n k h = rw (ne-eqb (lookCause w base shadow n k) 0 h)
 
