@@ -30,7 +30,7 @@ words-said : (a : Answer) → wordsSaid (said a) ≡ wordsOf a
 unfolding kindSaid wordsSaid
 words-said (Refused c) = refl
 words-said (Started n) = refl
-words-said (Read n moves) = refl
+words-said (Read holder moves) = refl
 words-said Written = refl
 words-said (Committed t) = refl
 words-said (Failed t k) = refl

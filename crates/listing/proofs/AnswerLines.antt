@@ -22,7 +22,7 @@ pub text-of-words :
 unfolding textOf wordOf numbersOf
 text-of-words (Refused c) = refl
 text-of-words (Started n) = refl
-text-of-words (Read n moves) = refl
+text-of-words (Read holder moves) = refl
 text-of-words Written = refl
 text-of-words (Committed t) = refl
 text-of-words (Failed t k) = refl

@@ -37,10 +37,11 @@ wordOf kind =
     (cond (eqb kind failedKind) (said (Failed 0 0) .word)
     (said (Aborted 0) .word))))))
 
--- read and failed have two numbers, written none, every other answer one
+-- RULES 5: read and failed have two numbers
 abbrev pub hasTwoNumbers : ℕ → Bool
 hasTwoNumbers kind = eqb kind readKind || eqb kind failedKind
 
+-- written has none, every other answer one
 unfoldable pub numbersOf : ℕ → ℕ → ℕ → List ℕ
 numbersOf kind first second = cond (eqb kind writtenKind) [] (first ∷ cond (hasTwoNumbers kind) (second ∷ []) [])
 

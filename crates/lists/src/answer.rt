@@ -11,7 +11,7 @@ pub fn words(a: Answer) -> [u64; kind::ANSWER_LENGTH]
     match a {
         Answer::Refused(c) => [kind::REFUSED, c, 0],
         Answer::Started(n) => [kind::STARTED, n, 0],
-        Answer::Read(n, moves) => [kind::READ, n, moves],
+        Answer::Read(holder, moves) => [kind::READ, holder, moves],
         Answer::Written => [kind::WRITTEN, 0, 0],
         Answer::Committed(t) => [kind::COMMITTED, t, 0],
         Answer::Failed(t, k) => [kind::FAILED, t, k],

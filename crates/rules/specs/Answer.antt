@@ -12,7 +12,7 @@ pub record Said : Type 0 where
 -- for each case of the type its word, `started` to `refused`, and its numbers in their order
 abbrev pub said : Answer → Said
 said (Started n) = record { word = 115 ∷ 116 ∷ 97 ∷ 114 ∷ 116 ∷ 101 ∷ 100 ∷ []; numbers = n ∷ [] }
-said (Read n moves) = record { word = 114 ∷ 101 ∷ 97 ∷ 100 ∷ []; numbers = n ∷ moves ∷ [] }
+said (Read holder moves) = record { word = 114 ∷ 101 ∷ 97 ∷ 100 ∷ []; numbers = holder ∷ moves ∷ [] }
 said Written = record { word = 119 ∷ 114 ∷ 105 ∷ 116 ∷ 116 ∷ 101 ∷ 110 ∷ []; numbers = [] }
 said (Committed t) = record { word = 99 ∷ 111 ∷ 109 ∷ 109 ∷ 105 ∷ 116 ∷ 116 ∷ 101 ∷ 100 ∷ []; numbers = t ∷ [] }
 said (Failed t k) = record { word = 102 ∷ 97 ∷ 105 ∷ 108 ∷ 101 ∷ 100 ∷ []; numbers = t ∷ k ∷ [] }

@@ -60,7 +60,7 @@ abortedKind = 6
 abbrev pub wordsOf : Answer → List ℕ
 wordsOf (Refused c) = refusedKind ∷ c ∷ 0 ∷ []
 wordsOf (Started n) = startedKind ∷ n ∷ 0 ∷ []
-wordsOf (Read n moves) = readKind ∷ n ∷ moves ∷ []
+wordsOf (Read holder moves) = readKind ∷ holder ∷ moves ∷ []
 wordsOf Written = writtenKind ∷ 0 ∷ 0 ∷ []
 wordsOf (Committed t) = committedKind ∷ t ∷ 0 ∷ []
 wordsOf (Failed t k) = failedKind ∷ t ∷ k ∷ []

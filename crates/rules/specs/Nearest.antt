@@ -16,7 +16,7 @@ nearest w n k = walkUp (parentOf w) 0 (λ m above. cond (hasWritten w m k) m abo
 unfoldable pub movesUp : List ℕ → ℕ → ℕ → ℕ
 movesUp w n k = walkUp (parentOf w) 0 (λ m above. cond (hasWritten w m k) 0 (suc above)) mostActions n
 
--- both belong to one version
+-- the two as one version: whoever takes one of them from here has the other with it
 abbrev pub version : List ℕ → ℕ → ℕ → Version
 version w n k = record { holder = nearest w n k; moves = movesUp w n k }
 

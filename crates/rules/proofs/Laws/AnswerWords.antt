@@ -10,7 +10,7 @@ pub three-words :
     (a : Answer) → (getD (wordsOf a) 0 0 ∷ getD (wordsOf a) 1 0 ∷ getD (wordsOf a) 2 0 ∷ []) ≡ wordsOf a
 three-words (Refused c) = refl
 three-words (Started n) = refl
-three-words (Read n moves) = refl
+three-words (Read holder moves) = refl
 three-words Written = refl
 three-words (Committed t) = refl
 three-words (Failed t k) = refl

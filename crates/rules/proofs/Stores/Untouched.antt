@@ -38,7 +38,7 @@ cause-leaves s e h = rw (ne-eqb (causeIn s e) 0 h)
 
 abbrev isRefused : Answer → Bool
 isRefused (Started n) = false
-isRefused (Read n moves) = false
+isRefused (Read holder moves) = false
 isRefused Written = false
 isRefused (Committed t) = false
 isRefused (Failed t k) = false

@@ -14,7 +14,7 @@ pub data Told : Type 0 where
 
 abbrev pub told : Answer → Told
 told (Started n) = itBegan n
-told (Read n moves) = itRead
+told (Read holder moves) = itRead
 told Written = itWrote
 told (Committed t) = itCommitted
 told (Failed t k) = itDidNothing
