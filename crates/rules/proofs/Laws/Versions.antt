@@ -2,7 +2,7 @@
 -- are actions, and what they mean. Assumes nothing.
 use Prim.Native.Nat.{ℕ, zero, suc, _+_, _≤_, _<_}
 use native.Mathlib.Omega.{arith}
-use mathlib.Core.Path.{_≡_, refl, sym, ap, ap₂, _∙_}
+use mathlib.Core.Path.{_≡_, refl, sym, ap, ap₂, subst, _∙_}
 use mathlib.Core.Logic.{_≢_}
 use mathlib.Core.Bool.{Bool, true, false, cond, true≢false}
 use mathlib.Core.List.{List}
@@ -28,36 +28,63 @@ module _ (w : List ℕ) (k : ℕ) where
       walk-counts _ _ (λ m above. cond-holds (λ x. x ≤ suc above) (hasWritten w m k) (λ _. omega arith) (λ _. omega arith))
       mostActions
 
-  -- what fewer moves lead to from an action that has not written the account
-  fewer-above :
-      (n : ℕ) → n ≢ 0 → hasWritten w n k ≡ false → IsNearest w (parentOf w n) k (version w (parentOf w n) k) →
-      (m : ℕ) → m < suc (movesUp w (parentOf w n) k) → (climbed w m n ≢ 0) × (hasWritten w (climbed w m n) k ≡ false)
-  unfolding climbed
-  fewer-above n ne unwritten above zero h = (ne, unwritten)
-  fewer-above n ne unwritten above (suc m) h = above .fewer m (omega arith)
+  -- the version seen from an action that has written the account, and from one that has not
+  pub version-own : (n : ℕ) → n ≢ 0 → Climbs w n → hasWritten w n k ≡ true → version w n k ≡ record { holder = n; moves = 0 }
+  version-own n ne up own = rw (nearest-step w n k ne up, movesUp-step n ne up, own)
 
-  store-nearest : IsNearest w 0 k (version w 0 k)
-  unfolding climbed
-  store-nearest =
-      rw (nearest-store w k, movesUp-store)
-      (record { leads = refl; holds = λ action. absurd (action refl); fewer = λ m h. absurd (omega arith) })
+  pub version-above :
+      (n : ℕ) → n ≢ 0 → Climbs w n → hasWritten w n k ≡ false →
+      version w n k ≡ record { holder = nearest w (parentOf w n) k; moves = suc (movesUp w (parentOf w n) k) }
+  version-above n ne up unwritten = rw (nearest-step w n k ne up, movesUp-step n ne up, unwritten)
 
-  action-nearest :
-      (n : ℕ) → n ≢ 0 → Climbs w n → IsNearest w (parentOf w n) k (version w (parentOf w n) k) → IsNearest w n k (version w n k)
-  unfolding climbed
-  action-nearest n ne up above =
-      rw (nearest-step w n k ne up, movesUp-step n ne up) (go (hasWritten w n k) refl)
+  -- What holds of the store's version, of an action's own, and of the parent's one move further up where it holds of the
+  -- parent's, holds of every version.
+  version-holds :
+      (P : ℕ → Version → Type 0) →
+      P 0 (record { holder = 0; moves = 0 }) →
+      ((n : ℕ) → hasWritten w n k ≡ true → P n (record { holder = n; moves = 0 })) →
+      ((n : ℕ) → n ≢ 0 → Climbs w n → hasWritten w n k ≡ false → (v : Version) → P (parentOf w n) v →
+      P n (record { holder = v .holder; moves = suc (v .moves) })) →
+      (n : ℕ) → Climbs w n → P n (version w n k)
+  version-holds P store own above = climb-holds w (λ n. P n (version w n k)) at-store action
     where
-      go :
-          (own : Bool) → hasWritten w n k ≡ own →
-          IsNearest w n k (record { holder = cond own n (nearest w (parentOf w n) k); moves = cond own 0 (suc (movesUp w (parentOf w n) k)) })
-      go true own = record { leads = refl; holds = λ _. own; fewer = λ m h. absurd (omega arith) }
-      go false unwritten = record { leads = above .leads; holds = above .holds; fewer = fewer-above n ne unwritten above }
+      at-store : P 0 (version w 0 k)
+      at-store = rw (nearest-store w k, movesUp-store) store
+
+      action : (n : ℕ) → n ≢ 0 → Climbs w n → P (parentOf w n) (version w (parentOf w n) k) → P n (version w n k)
+      action n ne up parent = by-card (hasWritten w n k) refl
+        where
+          by-card : (b : Bool) → hasWritten w n k ≡ b → P n (version w n k)
+          by-card true is = subst (P n) (sym (version-own n ne up is)) (own n is)
+          by-card false is = subst (P n) (sym (version-above n ne up is)) (above n ne up is _ parent)
+
+-- ---- what the moves mean
+
+module _ {w : List ℕ} {k : ℕ} where
+  store-nearest : IsNearest w 0 k (record { holder = 0; moves = 0 })
+  unfolding climbed
+  store-nearest = record { leads = refl; holds = λ action. absurd (action refl); fewer = λ m h. absurd (omega arith) }
+
+  own-nearest : (n : ℕ) → hasWritten w n k ≡ true → IsNearest w n k (record { holder = n; moves = 0 })
+  unfolding climbed
+  own-nearest n own = record { leads = refl; holds = λ _. own; fewer = λ m h. absurd (omega arith) }
+
+  above-nearest :
+      (n : ℕ) → n ≢ 0 → hasWritten w n k ≡ false → (v : Version) → IsNearest w (parentOf w n) k v →
+      IsNearest w n k (record { holder = v .holder; moves = suc (v .moves) })
+  unfolding climbed
+  above-nearest n ne unwritten v near = record { leads = near .leads; holds = near .holds; fewer = fewer }
+    where
+      fewer : (m : ℕ) → m < suc (v .moves) → (climbed w m n ≢ 0) × (hasWritten w (climbed w m n) k ≡ false)
+      fewer zero h = (ne, unwritten)
+      fewer (suc m) h = near .fewer m (omega arith)
 
 -- RULES 3.1: on a sound table, seen from the store or any action, the version is the nearest by its meaning
 pub version-nearest : (w : List ℕ) → Sound w → (n k : ℕ) → n ≤ started w → IsNearest w n k (version w n k)
 version-nearest w s n k known =
-    climb-holds w (λ m. IsNearest w m k (version w m k)) (store-nearest w k) (action-nearest w k) n (sound-climbs s n known)
+    version-holds w k (λ m v. IsNearest w m k v) store-nearest own-nearest
+    (λ m ne _. above-nearest m ne)
+    n (sound-climbs s n known)
 
 fewer-not-nearest : {w : List ℕ} {n k : ℕ} {v u : Version} → IsNearest w n k v → IsNearest w n k u → u .moves < v .moves → ⊥
 fewer-not-nearest {w} {n} {k} {v} {u} a b less =
@@ -77,20 +104,11 @@ nearest-unique {w} {n} {k} {v} {u} a b =
 module _ (w : List ℕ) (k : ℕ) where
   -- so many moves up an action lies that much less deep
   moves-and-depth : (n : ℕ) → Climbs w n → movesUp w n k + depth w (nearest w n k) ≡ depth w n
-  moves-and-depth = climb-holds w (λ n. movesUp w n k + depth w (nearest w n k) ≡ depth w n) store action
-    where
-      store : movesUp w 0 k + depth w (nearest w 0 k) ≡ depth w 0
-      store = rw (nearest-store w k, movesUp-store w k) (omega arith)
-
-      action :
-          (n : ℕ) → n ≢ 0 → Climbs w n →
-          movesUp w (parentOf w n) k + depth w (nearest w (parentOf w n) k) ≡ depth w (parentOf w n) →
-          movesUp w n k + depth w (nearest w n k) ≡ depth w n
-      action n ne up above = rw (nearest-step w n k ne up, movesUp-step w k n ne up) (go (hasWritten w n k))
-        where
-          go : (own : Bool) → cond own 0 (suc (movesUp w (parentOf w n) k)) + depth w (cond own n (nearest w (parentOf w n) k)) ≡ depth w n
-          go true = omega arith
-          go false = omega (arith, above, depth-step w n ne up)
+  moves-and-depth =
+      version-holds w k (λ n v. v .moves + depth w (v .holder) ≡ depth w n)
+      (omega arith)
+      (λ n _. omega arith)
+      (λ n ne up _ v above. omega (arith, above, depth-step w n ne up))
 
   -- RULES 3.1: to the base card it is as many moves up as the action lies deep
   pub moves-to-base : (n : ℕ) → Climbs w n → nearest w n k ≡ 0 → movesUp w n k ≡ depth w n

@@ -13,8 +13,8 @@ use borrow.Fn.PlainCycle.{Measures, is, falls, and}
 use Rattle.rules.specs.Table.{parentOf, hasWritten}
 use Rattle.rules.specs.Sound.{IsStarted, Sound}
 use Rattle.rules.specs.Nearest.{movesUp, version}
-use Rattle.rules.proofs.Laws.Walking.{Climbs, sound-climbs, nearest-store, nearest-step}
-use Rattle.rules.proofs.Laws.Versions.{movesUp-store, movesUp-step}
+use Rattle.rules.proofs.Laws.Walking.{sound-climbs, nearest-store}
+use Rattle.rules.proofs.Laws.Versions.{movesUp-store, version-own, version-above}
 use Rattle.ancestry.specs.Ancestry.{countedOn}
 use Rattle.ancestry.proofs.walk.climb.Reads as climb
 use Rattle.ancestry.proofs.walk.climb.Kinds as climb-kinds
@@ -27,16 +27,14 @@ use Rattle.ancestry.proofs.walk.+climb.Tie.{close}
 -- the version seen from an action, with some moves made before: its own where it has written the account, and else its
 -- parent's, with one move more
 module _ (w : List ℕ) (n k made : ℕ) (sound : Sound w) (own : IsStarted w n) where
-  up : Climbs w n
-  up = sound-climbs sound n (own .1)
-
   own-version : hasWritten w n k ≡ true → countedOn made (version w n k) ≡ record { holder = n; moves = made }
-  own-version written = rw (nearest-step w n k (λ z. omega arith) up, movesUp-step w k n (λ z. omega arith) up, written, add-zero)
+  own-version written =
+      ap (countedOn made) (version-own w k n (λ z. omega arith) (sound-climbs sound n (own .1)) written) ∙ rw add-zero
 
   parent-version : hasWritten w n k ≡ false → countedOn made (version w n k) ≡ countedOn (made + 1) (version w (parentOf w n) k)
   parent-version unwritten =
       let one-more : made + suc (movesUp w (parentOf w n) k) ≡ made + 1 + movesUp w (parentOf w n) k = omega arith in
-      rw (nearest-step w n k (λ z. omega arith) up, movesUp-step w k n (λ z. omega arith) up, unwritten, one-more)
+      ap (countedOn made) (version-above w k n (λ z. omega arith) (sound-climbs sound n (own .1)) unwritten) ∙ rw one-more
 
 abbrev μ-climb : Measures 1 climb-kinds.ps ℕ
 μ-climb κs a = a .1 .0
