@@ -72,6 +72,7 @@ abbrev giving : List Answer → ℕ → ℕ → List (List ℕ) → List Shown �
 giving answers starts count baseCards looks =
     record { answers = answers; starts = starts; count = count; baseCards = baseCards; looks = looks }
 
+-- action n and account k as a spot
 abbrev at : ℕ → ℕ → Spot
 at n k = record { action = n; account = k }
 

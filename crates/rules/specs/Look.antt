@@ -56,6 +56,7 @@ lookAt v k = record { cause = 0; part = cardPart (v .holder) k; moves = v .moves
 abbrev pub lookRefused : ℕ → Looked
 lookRefused cause = record { cause = cause; part = emptyPart; moves = 0 }
 
+-- RULES 3.2: a look of action n at account k
 unfoldable pub look : List ℕ → List ℕ → List ℕ → ℕ → ℕ → Looked
 look w base shadow n k =
     let cause = lookCause w base shadow n k in
