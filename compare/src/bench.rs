@@ -3,8 +3,8 @@
 use crate::dayfile::{event_bytes, run_day, MOST_EVENTS};
 use crate::generate::{day_file, events, Shape};
 use crate::header::*;
-use crate::library::{encode, Lent, LIVE, STATE};
-use crate::model::{Event, Ledger, State, Table, STORE};
+use crate::library::{encode, Lent, COUNTER, LIVE, STATE};
+use crate::model::{put_amount, Answer, Event, Ledger, State, Table, FIRST_CHARGE, STORE};
 use crate::random::Random;
 use std::fmt::Write;
 use std::hint::black_box;
@@ -21,8 +21,13 @@ const SEED: u64 = 7;
 /// What base store and cards hold.
 const BASE_FILL: u8 = 1;
 const CARD_FILL: u8 = 7;
-/// An account that no sibling writes; they share those below it.
-const FREE_ACCOUNT: u64 = ACCOUNTS as u64 - 1;
+/// What is added, in cents.
+const ADDED_AMOUNT: i64 = 5;
+/// An account that no sibling writes; they share those below it. All above it are charge accounts.
+const FREE_ACCOUNT: u64 = CHARGE_ACCOUNT - 1;
+const CHARGE_ACCOUNT: u64 = FIRST_CHARGE as u64;
+/// How deep actions lie where that is measured.
+const DEPTHS: [u64; 3] = [1, 10, ACTIONS as u64];
 /// Where an event has no use for an account.
 const NO_ACCOUNT: u64 = 0;
 
@@ -74,10 +79,22 @@ fn of(code: u64, number: u64, account: u64) -> Event {
     Event { code, number, account, card: vec![CARD_FILL; CARD_BYTES] }
 }
 
+fn add(number: u64, account: u64) -> Event {
+    let mut e = of(EVENT_ADD, number, account);
+    put_amount(&mut e.card, ADDED_AMOUNT);
+    e
+}
+
+/// An event of which we know that it is not refused.
+fn done(w: &mut Ledger, e: &Event) {
+    let answer = w.event(e);
+    assert!(!matches!(answer, Answer::Refused(_)), "{e:?} is answered {answer:?}");
+}
+
 /// A whole day: file to listing, and its events alone.
 fn days(rows: &mut Vec<Row>) {
     for (name, shape) in [("deep", Shape::Deep), ("wide", Shape::Wide), ("mixed", Shape::Mixed)] {
-        let list = events(&mut Random::new(SEED), MOST_EVENTS, shape, true);
+        let list = events(&mut Random::new(SEED), &[0; BASE_BYTES], MOST_EVENTS, shape, true);
         let file = day_file(&[], &list);
         let (mut lent, mut buffer) = (lend(&new_world()), Box::new([0; LISTING_BYTES]));
         rows.push(measure(
@@ -109,28 +126,30 @@ fn days(rows: &mut Vec<Row>) {
 fn siblings(count: u64) -> Ledger {
     let mut w = new_world();
     for _ in 0..count {
-        w.event(&of(EVENT_START, STORE, NO_ACCOUNT));
+        done(&mut w, &of(EVENT_START, STORE, NO_ACCOUNT));
     }
     for n in 2..=count {
-        w.event(&of(EVENT_WRITE, n, n % FREE_ACCOUNT));
-        w.event(&of(EVENT_COMMIT, n, NO_ACCOUNT));
+        done(&mut w, &of(EVENT_WRITE, n, n % FREE_ACCOUNT));
+        done(&mut w, &of(EVENT_COMMIT, n, NO_ACCOUNT));
     }
     w
 }
 
-/// One below the other; the first alone has written account 0.
+/// One below the other; the first alone has written account 0 and added to a charge account.
 fn chain(depth: u64) -> Ledger {
     let mut w = new_world();
-    w.event(&of(EVENT_START, STORE, NO_ACCOUNT));
-    w.event(&of(EVENT_WRITE, 1, 0));
+    done(&mut w, &of(EVENT_START, STORE, NO_ACCOUNT));
+    done(&mut w, &of(EVENT_WRITE, 1, 0));
+    done(&mut w, &add(1, CHARGE_ACCOUNT));
     for n in 1..depth {
-        w.event(&of(EVENT_START, n, NO_ACCOUNT));
+        done(&mut w, &of(EVENT_START, n, NO_ACCOUNT));
     }
     w
 }
 
-/// One event again and again, where it changes nothing after the first time.
+/// One event again and again, where after the first time it changes nothing, or a pending sum alone.
 fn repeated(what: &str, mut ledger: Ledger, e: Event) -> Row {
+    done(&mut ledger, &e);
     let mut lent = lend(&ledger);
     measure(
         what,
@@ -148,10 +167,21 @@ fn single_events(rows: &mut Vec<Row>) {
         let write = of(EVENT_WRITE, 1, FREE_ACCOUNT);
         rows.push(repeated(&format!("a write, siblings: {}", count - 1), siblings(count), write));
     }
+    for count in [2, ACTIONS as u64] {
+        let add = add(1, CHARGE_ACCOUNT);
+        rows.push(repeated(&format!("an add, siblings: {}", count - 1), siblings(count), add));
+    }
+}
+
+fn charge_reads(rows: &mut Vec<Row>) {
+    for depth in DEPTHS {
+        let read = of(EVENT_READ, depth, CHARGE_ACCOUNT);
+        rows.push(repeated(&format!("a read of a charge account, depth: {depth}"), chain(depth), read));
+    }
 }
 
 fn looks(rows: &mut Vec<Row>) {
-    for depth in [1, 10, ACTIONS as u64] {
+    for depth in DEPTHS {
         let ledger = chain(depth);
         let lent = lend(&ledger);
         rows.push(measure(
@@ -171,7 +201,7 @@ fn searches(rows: &mut Vec<Row>) {
     for count in [3, ACTIONS as u64] {
         let mut ledger = siblings(count);
         for k in 0..FREE_ACCOUNT {
-            ledger.event(&of(EVENT_READ, 1, k));
+            done(&mut ledger, &of(EVENT_READ, 1, k));
         }
         let mut lent = lend(&ledger);
         let commit = of(EVENT_COMMIT, 1, NO_ACCOUNT);
@@ -187,6 +217,32 @@ fn searches(rows: &mut Vec<Row>) {
             },
         ));
     }
+}
+
+/// A commit to the store of what was added to every charge account. Each time the action is made live again, and the
+/// counter what it was.
+fn charge_commits(rows: &mut Vec<Row>) {
+    let mut ledger = new_world();
+    done(&mut ledger, &of(EVENT_START, STORE, NO_ACCOUNT));
+    for account in CHARGE_ACCOUNT..ACCOUNTS as u64 {
+        done(&mut ledger, &add(1, account));
+    }
+    let mut lent = lend(&ledger);
+    let commit = of(EVENT_COMMIT, 1, NO_ACCOUNT);
+    done(&mut ledger.clone(), &commit);
+    rows.push(measure(
+        "a commit with eight charge accounts",
+        &mut || {
+            black_box(lent.event(&commit));
+            lent.table[ROW_WORDS + STATE] = LIVE;
+            lent.table[COUNTER] = 0;
+        },
+        &mut || {
+            black_box(ledger.event(&commit));
+            ledger.table.actions[0].state = State::Live;
+            ledger.table.counter = 0;
+        },
+    ));
 }
 
 fn growth(rows: &mut Vec<Row>) {
@@ -218,8 +274,10 @@ pub fn bench(file: Option<&str>) -> Result<(), String> {
     let mut rows = Vec::new();
     days(&mut rows);
     single_events(&mut rows);
+    charge_reads(&mut rows);
     looks(&mut rows);
     searches(&mut rows);
+    charge_commits(&mut rows);
     growth(&mut rows);
     let table = table(&rows);
     print!("{table}");

@@ -16,3 +16,9 @@ pub const LENGTH: u64 = 10;
 pub const COUNT: u64 = 11;
 /// A day file's opening accounts.
 pub const OPENING: u64 = 12;
+/// An add to an account that is no charge account, or a write to one that is.
+pub const KIND_OF_ACCOUNT: u64 = 13;
+/// An add that is too large, either way.
+pub const AMOUNT: u64 = 14;
+/// A sum that is no amount.
+pub const SUM: u64 = 15;

@@ -1,6 +1,8 @@
 //! What a comparison has met, so that a reader sees that nothing was left out.
 
-use crate::model::{Answer, Unsound};
+use crate::cause;
+use crate::header::{EVENT_ADD, EVENT_COMMIT, EVENT_READ};
+use crate::model::{amount_in, Answer, Event, Unsound, FIRST_CHARGE};
 use std::collections::BTreeMap;
 use std::fmt;
 
@@ -9,6 +11,10 @@ pub struct Coverage {
     answers: BTreeMap<&'static str, u64>,
     refusals: BTreeMap<u64, u64>,
     moves: BTreeMap<u64, u64>,
+    adds: BTreeMap<&'static str, u64>,
+    sums: BTreeMap<&'static str, u64>,
+    sums_refused: BTreeMap<&'static str, u64>,
+    charge_clashes: u64,
     unsound: BTreeMap<String, u64>,
     sound: u64,
     pub table_length: u64,
@@ -16,6 +22,8 @@ pub struct Coverage {
     pub list_calls: u64,
     list_refusals: BTreeMap<u64, u64>,
     pub serial_reads: u64,
+    pub serial_sums: u64,
+    pub amounts_held: u64,
     pub damaged: u64,
     days: u64,
     day_refusals: BTreeMap<u64, u64>,
@@ -23,11 +31,14 @@ pub struct Coverage {
 }
 
 impl Coverage {
-    pub fn answer(&mut self, a: Answer) {
+    pub fn answer(&mut self, e: &Event, a: Answer) {
         self.events += 1;
         let word = match a {
             Answer::Refused(cause) => {
                 *self.refusals.entry(cause).or_default() += 1;
+                if cause == cause::SUM {
+                    *self.sums_refused.entry(summing(e)).or_default() += 1;
+                }
                 "refused"
             }
             Answer::Started(_) => "started",
@@ -37,8 +48,20 @@ impl Coverage {
             }
             Answer::Written => "written",
             Answer::Committed(_) => "committed",
-            Answer::Failed(..) => "failed",
+            Answer::Failed(_, account) => {
+                self.charge_clashes += u64::from(account >= FIRST_CHARGE as u64);
+                "failed"
+            }
             Answer::Aborted(_) => "aborted",
+            Answer::Added => {
+                *self.adds.entry(sign(amount_in(&e.card))).or_default() += 1;
+                "added"
+            }
+            Answer::ReadSum(v, sum) => {
+                *self.moves.entry(v.moves).or_default() += 1;
+                *self.sums.entry(sign(sum)).or_default() += 1;
+                "read"
+            }
         };
         *self.answers.entry(word).or_default() += 1;
     }
@@ -69,6 +92,24 @@ impl Coverage {
     }
 }
 
+/// The event that made a sum.
+fn summing(e: &Event) -> &'static str {
+    match e.code {
+        EVENT_READ => "read",
+        EVENT_COMMIT => "commit",
+        EVENT_ADD => "add",
+        _ => "another event",
+    }
+}
+
+fn sign(amount: i64) -> &'static str {
+    match amount {
+        0 => "zero",
+        1.. => "positive",
+        _ => "negative",
+    }
+}
+
 fn row<K: fmt::Display>(f: &mut fmt::Formatter, title: &str, counts: &BTreeMap<K, u64>) -> fmt::Result {
     write!(f, "{title}:")?;
     for (k, n) in counts {
@@ -82,9 +123,14 @@ impl fmt::Display for Coverage {
         row(f, "answers", &self.answers)?;
         row(f, "refusals by number", &self.refusals)?;
         row(f, "reads by moves up", &self.moves)?;
+        row(f, "adds", &self.adds)?;
+        row(f, "sums read", &self.sums)?;
+        row(f, "refused 15 by event", &self.sums_refused)?;
+        writeln!(f, "failed over a charge account: {}", self.charge_clashes)?;
         writeln!(f, "lists: {}, lists in one call: {}", self.lists, self.list_calls)?;
         row(f, "lists in one call refused by number", &self.list_refusals)?;
-        writeln!(f, "reads held to the serial run: {}", self.serial_reads)?;
+        writeln!(f, "reads held to the serial run: {}, with a sum: {}", self.serial_reads, self.serial_sums)?;
+        writeln!(f, "base amounts held to what was added: {}", self.amounts_held)?;
         writeln!(f, "damaged tables and stores: {}", self.damaged)?;
         row(f, "unsound by clause", &self.unsound)?;
         writeln!(f, "sound all the same: {}, tables of another length: {}", self.sound, self.table_length)?;

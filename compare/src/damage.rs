@@ -1,7 +1,9 @@
 //! Damage to tables and stores.
 
+use crate::generate::extreme;
 use crate::header::*;
-use crate::library::{Lent, ABORTED, COMMITTED, COUNTER, END, LIVE, PARENT, READS, STARTED, STATE, WRITES};
+use crate::library::{Lent, ABORTED, COMMITTED, COUNTER, END, LIVE, PARENT, PENDING, READS, STARTED, STATE, WRITES};
+use crate::model::{base_card, put_amount, CHARGE_ACCOUNTS, FIRST_CHARGE};
 use crate::random::Random;
 
 /// An enum of kinds of damage, with the list of them all.
@@ -33,6 +35,9 @@ damages! {
     EndTime,
     WriteEntry,
     EndTimeTwice,
+    PendingAstray,
+    PendingAtEnds,
+    BaseAtEnds,
 }
 
 use Damage::*;
@@ -67,25 +72,57 @@ pub fn damage(r: &mut Random, kind: Damage, lent: &mut Lent) {
         BaseLength => lent.base.resize(*r.pick(&BASE_LENGTHS), FILL),
         ShadowLength => lent.shadow.resize(*r.pick(&SHADOW_LENGTHS), FILL),
         TableLength => lent.table.resize(*r.pick(&TABLE_LENGTHS), 0),
+        BaseAtEnds => damage_amounts(r, &mut lent.base),
         _ if lent.table.len() != TABLE_WORDS => {}
         Started => lent.table[STARTED] = beyond(r, ACTIONS as u64 + 1),
         Counter => lent.table[COUNTER] = beyond(r, lent.table[COUNTER].saturating_add(1)),
         UnusedHead => lent.table[COUNTER + 1 + r.below((ROW_WORDS - COUNTER - 1) as u64) as usize] = r.next(),
         UnusedRow => damage_unused_row(r, &mut lent.table),
+        PendingAtEnds => damage_sums(r, &mut lent.table),
         _ => damage_action(r, kind, &mut lent.table),
     }
 }
 
+/// Most base amounts put at an end of 64 bits, or near it.
+fn damage_amounts(r: &mut Random, base: &mut [u8]) {
+    if base.len() != BASE_BYTES {
+        return;
+    }
+    for account in FIRST_CHARGE..ACCOUNTS {
+        if !r.one_in(3) {
+            put_amount(&mut base[base_card(account)], extreme(r));
+        }
+    }
+}
+
+/// How many rows are actions, whatever the head says.
+fn started(words: &[u64]) -> u64 {
+    words[STARTED].min(ACTIONS as u64)
+}
+
+/// Most pending sums put at an end of 64 bits, or near it: of live actions, and of others where they have added.
+fn damage_sums(r: &mut Random, words: &mut [u64]) {
+    for n in 1..=started(words) {
+        let row = row(words, n);
+        for c in 0..CHARGE_ACCOUNTS {
+            let entry = WRITES + FIRST_CHARGE + c;
+            if (row[STATE] == LIVE || row[entry] != 0) && !r.one_in(3) {
+                row[entry] = row[entry].max(1);
+                row[PENDING + c] = extreme(r) as u64;
+            }
+        }
+    }
+}
+
 fn damage_unused_row(r: &mut Random, words: &mut [u64]) {
-    let started = words[STARTED].min(ACTIONS as u64);
-    let above = started + 1 + r.below(3);
+    let above = started(words) + 1 + r.below(3);
     if above <= ACTIONS as u64 {
         row(words, above).fill_with(|| r.next());
     }
 }
 
 fn damage_action(r: &mut Random, kind: Damage, words: &mut [u64]) {
-    let started = words[STARTED].min(ACTIONS as u64);
+    let started = started(words);
     if started == 0 {
         return;
     }
@@ -100,6 +137,11 @@ fn damage_action(r: &mut Random, kind: Damage, words: &mut [u64]) {
         LateRead => row(words, n)[READS + k] = beyond(r, counter.saturating_add(1)),
         EndTime => row(words, n)[END] = if r.one_in(2) { 0 } else { beyond(r, counter) },
         WriteEntry => row(words, n)[WRITES + k] = 2 + r.below(9),
+        PendingAstray => {
+            let c = r.below(CHARGE_ACCOUNTS as u64) as usize;
+            row(words, n)[WRITES + FIRST_CHARGE + c] = 0;
+            row(words, n)[PENDING + c] = *r.pick(&[1, i64::MAX, i64::MIN, -1]) as u64;
+        }
         _ => {
             let other = 1 + r.below(started);
             let end = row(words, other)[END];

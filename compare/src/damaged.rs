@@ -14,7 +14,7 @@ use crate::same::{same, same_lent, Compared};
 use crate::shrink::{described, smallest_list};
 
 /// What the stores hold before the list.
-const BASE_FILL: u8 = 3;
+const BASE: [u8; BASE_BYTES] = [3; BASE_BYTES];
 const SHADOW_FILL: u8 = 5;
 /// A list is shorter than this, and as many tables as this are damaged after it.
 const LONGEST_HISTORY: u64 = 150;
@@ -44,7 +44,7 @@ fn expected(lent: &Lent, e: &Event, seen: &mut Coverage) -> (Answer, Lent, Resul
 /// Every call on a table that a list left, after one or two kinds of damage.
 fn damaged(seed: u64, history: &[Event], seen: &mut Coverage) -> Compared {
     let mut r = Random::new(seed);
-    let opening = Opening { base: vec![BASE_FILL; BASE_BYTES], shadow: vec![SHADOW_FILL; SHADOW_BYTES] };
+    let opening = Opening { base: BASE.to_vec(), shadow: vec![SHADOW_FILL; SHADOW_BYTES] };
     let mut lent = opening.lend();
     let mut ledger = Ledger::new(opening.base, opening.shadow);
     for e in history {
@@ -62,7 +62,7 @@ fn damaged(seed: u64, history: &[Event], seen: &mut Coverage) -> Compared {
     let (a, after, look) = expected(&lent, &e, seen);
     let ours = lent.event(&e);
     same(&format!("answer to {e:?}"), ours, a)?;
-    seen.answer(a);
+    seen.answer(&e, a);
     seen.damaged += 1;
     same_lent(&lent, &after)?;
     same(&format!("look after {e:?}"), lent.look(e.number, e.account), look)
@@ -74,12 +74,13 @@ pub fn check_damaged(count: u64, seed: u64, seen: &mut Coverage) -> Compared {
     for i in 0..count {
         if i % TABLES_TO_A_HISTORY == 0 {
             let (length, shape) = (r.below(LONGEST_HISTORY) as usize, shape(&mut r));
-            history = events(&mut r, length, shape, false);
+            history = events(&mut r, &BASE, length, shape, false);
             crate::check::progress(&format!("{i} damaged tables of {count}"));
         }
         let once = r.next();
         if let Err(text) = damaged(once, &history, seen) {
-            let small = smallest_list(&history, |part| damaged(once, part, &mut Coverage::default()).is_err());
+            let differs = |part: &[Event]| damaged(once, part, &mut Coverage::default()).is_err();
+            let small = smallest_list(&history, &BASE, differs);
             let why = damaged(once, &small, &mut Coverage::default()).err().unwrap_or(text);
             return Err(format!("{why}\non damage {once} after {}", described(&small)));
         }

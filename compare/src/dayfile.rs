@@ -117,6 +117,8 @@ fn write_words(out: &mut String, a: Answer) {
         Answer::Committed(t) => write!(out, "committed {t}"),
         Answer::Failed(t, k) => write!(out, "failed {t} {k}"),
         Answer::Aborted(n) => write!(out, "aborted {n}"),
+        Answer::Added => write!(out, "added"),
+        Answer::ReadSum(v, sum) => write!(out, "read {} {} {sum}", v.holder, v.moves),
     }
     .expect("a string grows");
 }

@@ -65,7 +65,7 @@ fn small_file(file: &[u8], before: &Lent) -> Vec<u8> {
     let Ok(whole) = parse(file) else { return smallest_bytes(file, differs) };
     let count_at = entry_at(file[0].into());
     let with = |events: &[Event]| [&file[..count_at], &counted_events(events)].concat();
-    with(&smallest_list(&whole.events, |part| differs(&with(part))))
+    with(&smallest_list(&whole.events, &whole.base, |part| differs(&with(part))))
 }
 
 pub fn check_days(count: u64, seed: u64, seen: &mut Coverage) -> Compared {

@@ -2,18 +2,26 @@
 
 use crate::dayfile::{counted_events, entry_at, MOST_EVENTS};
 use crate::header::*;
-use crate::model::{Event, Ledger, State, Table, STORE};
+use crate::model::{base_card, put_amount, Event, Ledger, State, Table};
+use crate::model::{CHARGE_ACCOUNTS, FIRST_CHARGE, MOST_ADDED, STORE};
 use crate::random::Random;
 
 /// What a part of an event that means nothing mostly is below: a little beyond what has a meaning.
-const CODES: u64 = EVENT_ABORT + 3;
+const CODES: u64 = EVENT_ADD + 3;
 const NUMBERS: u64 = ACTIONS as u64 + 6;
 const ANY_ACCOUNTS: u64 = ACCOUNTS as u64 + 8;
 const CARD_LENGTHS: u64 = 2 * CARD_BYTES as u64 + 6;
 /// As many values as a byte has.
 const BYTE_VALUES: u64 = 256;
-/// Accounts that most events are about, so that actions meet.
+/// Accounts of each kind that most events are about, so that actions meet.
 const BUSY_ACCOUNTS: u64 = 3;
+const BUSY_CHARGE_ACCOUNTS: u64 = 2;
+/// One write or add in so many is to an account of the other kind.
+const OTHER_KIND: u64 = 24;
+/// What most adds lie within.
+const SMALL: i64 = 100;
+/// How far from an end of 64 bits an amount near it may be: a few adds reach it.
+const NEAR: u64 = 2 * MOST_ADDED as u64;
 /// A day mostly has fewer events than this.
 const SHORT_DAY: u64 = 120;
 /// The ways in which a day file is damaged.
@@ -36,6 +44,46 @@ pub fn bytes(r: &mut Random, n: usize) -> Vec<u8> {
     out
 }
 
+/// An amount at an end of 64 bits, or near it.
+pub fn extreme(r: &mut Random) -> i64 {
+    let away = if r.one_in(2) { r.below(3) } else { r.below(NEAR) } as i64;
+    if r.one_in(2) {
+        i64::MAX - away
+    } else {
+        i64::MIN + away
+    }
+}
+
+/// A base store of any content; many of its amounts are near an end.
+pub fn any_base(r: &mut Random) -> Vec<u8> {
+    let mut base = bytes(r, BASE_BYTES);
+    for account in FIRST_CHARGE..ACCOUNTS {
+        let amount = match r.below(4) {
+            0 => r.next() as i64,
+            1 => within(r, SMALL),
+            _ => extreme(r),
+        };
+        put_amount(&mut base[base_card(account)], amount);
+    }
+    base
+}
+
+fn within(r: &mut Random, most: i64) -> i64 {
+    r.below(2 * most as u64 + 1) as i64 - most
+}
+
+/// What is added: mostly allowed, often at a limit.
+fn added(r: &mut Random) -> i64 {
+    match r.below(16) {
+        0 => r.next() as i64,
+        1 => *r.pick(&[MOST_ADDED + 1, -MOST_ADDED - 1]),
+        2 | 3 => *r.pick(&[MOST_ADDED, -MOST_ADDED]),
+        4 | 5 => 0,
+        6 | 7 => within(r, MOST_ADDED),
+        _ => within(r, SMALL),
+    }
+}
+
 fn live(t: &Table) -> Vec<u64> {
     (1..=t.started).filter(|&n| t.action(n).state == State::Live).collect()
 }
@@ -52,12 +100,20 @@ fn wild(r: &mut Random, in_bytes: bool) -> Event {
     Event { code, number, account, card: bytes(r, length) }
 }
 
-fn account(r: &mut Random) -> u64 {
-    if r.one_in(4) {
-        r.below(ACCOUNTS as u64)
+/// An account for an event of this code, mostly of the kind that it asks.
+fn account(r: &mut Random, code: u64) -> u64 {
+    let is_charge = match code {
+        EVENT_ADD => !r.one_in(OTHER_KIND),
+        EVENT_WRITE => r.one_in(OTHER_KIND),
+        _ => r.one_in(2),
+    };
+    let (first, all, busy) = if is_charge {
+        (FIRST_CHARGE, CHARGE_ACCOUNTS, BUSY_CHARGE_ACCOUNTS)
     } else {
-        r.below(BUSY_ACCOUNTS)
-    }
+        (0, FIRST_CHARGE, BUSY_ACCOUNTS)
+    };
+    let among = if r.one_in(4) { all as u64 } else { busy };
+    first as u64 + r.below(among)
 }
 
 fn start(r: &mut Random, live: &[u64], shape: Shape) -> u64 {
@@ -96,7 +152,7 @@ fn spoil(r: &mut Random, e: &mut Event, in_bytes: bool) {
 
 fn likely(r: &mut Random, w: &Ledger, shape: Shape) -> Event {
     let live = live(&w.table);
-    let card = bytes(r, CARD_BYTES);
+    let mut card = bytes(r, CARD_BYTES);
     let full = w.table.started >= ACTIONS as u64;
     if live.is_empty() || (!full && r.one_in(5)) {
         return Event { code: EVENT_START, number: start(r, &live, shape), account: 0, card };
@@ -104,18 +160,23 @@ fn likely(r: &mut Random, w: &Ledger, shape: Shape) -> Event {
     let busy = |n: u64| live.iter().any(|&m| w.table.action(m).parent == n);
     let leaves: Vec<u64> = live.iter().copied().filter(|&n| !busy(n)).collect();
     let number = if r.one_in(12) { *r.pick(&live) } else { *r.pick(&leaves) };
-    let code = match r.below(12) {
+    let code = match r.below(15) {
         0..4 => EVENT_READ,
         4..8 => EVENT_WRITE,
-        8..11 => EVENT_COMMIT,
+        8..11 => EVENT_ADD,
+        11..14 => EVENT_COMMIT,
         _ if r.one_in(3) => EVENT_ABORT,
         _ => EVENT_WRITE,
     };
-    Event { code, number, account: account(r), card }
+    if code == EVENT_ADD {
+        put_amount(&mut card, added(r));
+    }
+    Event { code, number, account: account(r, code), card }
 }
 
-pub fn events(r: &mut Random, count: usize, shape: Shape, in_bytes: bool) -> Vec<Event> {
-    let mut ledger = Ledger::new(vec![0; BASE_BYTES], vec![0; SHADOW_BYTES]);
+/// A list for a new table over the base store.
+pub fn events(r: &mut Random, base: &[u8], count: usize, shape: Shape, in_bytes: bool) -> Vec<Event> {
+    let mut ledger = Ledger::new(base.to_vec(), vec![0; SHADOW_BYTES]);
     let mut out = Vec::with_capacity(count);
     for _ in 0..count {
         let e = event(r, &ledger, shape, in_bytes);
@@ -142,16 +203,18 @@ pub fn day_file(opening: &[(u8, Vec<u8>)], events: &[Event]) -> Vec<u8> {
 }
 
 pub fn any_day(r: &mut Random) -> Vec<u8> {
-    let mut opening = Vec::new();
+    let (cards, mut base, mut opening) = (any_base(r), vec![0; BASE_BYTES], Vec::new());
     let dense = 1 + r.below(8);
-    for k in 0..ACCOUNTS as u8 {
+    for k in 0..ACCOUNTS {
         if r.one_in(dense) {
-            opening.push((k, bytes(r, CARD_BYTES)));
+            let card = &cards[base_card(k)];
+            base[base_card(k)].copy_from_slice(card);
+            opening.push((k as u8, card.to_vec()));
         }
     }
     let count = if r.one_in(20) { MOST_EVENTS } else { r.below(SHORT_DAY) as usize };
     let shape = shape(r);
-    let events = events(r, count, shape, true);
+    let events = events(r, &base, count, shape, true);
     let file = day_file(&opening, &events);
     if r.one_in(2) {
         damaged_file(r, file)

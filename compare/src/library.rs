@@ -2,29 +2,31 @@
 
 use crate::cause;
 use crate::header::*;
-use crate::model::{Action, Answer, Event, Shown, State, Table, Version};
+use crate::model::{Action, Answer, Event, Shown, State, Table, Version, CHARGE_ACCOUNTS};
 
 /// Words of row 0, the head.
 pub const STARTED: usize = 0;
 pub const COUNTER: usize = 1;
-/// Words of row n, action n. Each set has a word for every account, from here on.
+/// Words of row n, action n. Each set has a word for every account, from here on, and the pending sums one for every
+/// charge account.
 pub const PARENT: usize = 0;
 pub const STATE: usize = 1;
 pub const END: usize = 2;
 pub const READS: usize = 3;
 pub const WRITES: usize = READS + ACCOUNTS;
+pub const PENDING: usize = WRITES + ACCOUNTS;
 /// What the state's word says.
 pub const LIVE: u64 = 1;
 pub const COMMITTED: u64 = 2;
 pub const ABORTED: u64 = 3;
 
-const _: () = assert!(ROW_WORDS == WRITES + ACCOUNTS, "a row ends with the write set");
+const _: () = assert!(ROW_WORDS == PENDING + CHARGE_ACCOUNTS, "a row ends with the pending sums");
 const _: () = assert!(TABLE_WORDS == ROW_WORDS * (ACTIONS + 1), "a table is a head and a row for each action");
 
 /// What stands where a refused look must not write.
 const UNTOUCHED: u8 = 0xee;
-/// What stands where a look puts its moves, 0 where it is refused.
-const NO_COUNT: u64 = u64::MAX;
+/// What stands where a call puts a number, 0 where it has none.
+const NO_NUMBER: u64 = u64::MAX;
 
 extern "C" {
     fn mundzavch_open(table: *mut u64, words: usize) -> u64;
@@ -44,6 +46,7 @@ extern "C" {
         card_length: usize,
         first: *mut u64,
         second: *mut u64,
+        third: *mut u64,
     ) -> u64;
     fn mundzavch_look(
         table: *const u64,
@@ -108,19 +111,19 @@ macro_rules! on_parts {
 
 impl Lent {
     pub fn event(&mut self, e: &Event) -> Answer {
-        let (mut first, mut second) = (0, 0);
+        let [mut first, mut second, mut third] = [NO_NUMBER; ANSWER_WORDS - 1];
         let kind = on_parts!(
             mundzavch_event,
             as_mut_ptr,
             self,
             [],
-            [e.code, e.number, e.account, e.card.as_ptr(), e.card.len(), &mut first, &mut second]
+            [e.code, e.number, e.account, e.card.as_ptr(), e.card.len(), &mut first, &mut second, &mut third]
         );
-        answer([kind, first, second])
+        answer([kind, first, second, third])
     }
 
     pub fn look(&self, number: u64, account: u64) -> Result<Shown, u64> {
-        let (mut card, mut moves) = ([UNTOUCHED; CARD_BYTES], NO_COUNT);
+        let (mut card, mut moves) = ([UNTOUCHED; CARD_BYTES], NO_NUMBER);
         let cause = on_parts!(mundzavch_look, as_ptr, self, [], [number, account, card.as_mut_ptr(), &mut moves]);
         if cause == cause::NONE {
             return Ok(Shown { card, moves });
@@ -152,34 +155,37 @@ impl Lent {
     }
 }
 
-/// An answer from its words.
+/// An answer from its words. Where it has fewer numbers than there is room for, zeros stand.
 pub fn answer(words: [u64; ANSWER_WORDS]) -> Answer {
-    let [kind, first, second] = words;
+    let [kind, first, second, third] = words;
+    let version = Version { holder: first, moves: second };
     let a = match kind {
         ANSWER_REFUSED => Answer::Refused(first),
         ANSWER_STARTED => Answer::Started(first),
-        ANSWER_READ => Answer::Read(Version { holder: first, moves: second }),
+        ANSWER_READ => Answer::Read(version),
         ANSWER_WRITTEN => Answer::Written,
         ANSWER_COMMITTED => Answer::Committed(first),
         ANSWER_FAILED => Answer::Failed(first, second),
         ANSWER_ABORTED => Answer::Aborted(first),
+        ANSWER_ADDED => Answer::Added,
+        ANSWER_READ_SUM => Answer::ReadSum(version, third as i64),
         _ => panic!("an answer of kind {kind}"),
     };
-    let has_second = matches!(kind, ANSWER_READ | ANSWER_FAILED);
-    assert!(has_second || second == 0, "a second number for kind {kind}");
-    assert!(kind != ANSWER_WRITTEN || first == 0, "a number for a written card");
+    assert_eq!(words, answer_words(a), "a number too many in an answer");
     a
 }
 
 pub fn answer_words(a: Answer) -> [u64; ANSWER_WORDS] {
     match a {
-        Answer::Refused(c) => [ANSWER_REFUSED, c, 0],
-        Answer::Started(n) => [ANSWER_STARTED, n, 0],
-        Answer::Read(v) => [ANSWER_READ, v.holder, v.moves],
-        Answer::Written => [ANSWER_WRITTEN, 0, 0],
-        Answer::Committed(t) => [ANSWER_COMMITTED, t, 0],
-        Answer::Failed(t, k) => [ANSWER_FAILED, t, k],
-        Answer::Aborted(n) => [ANSWER_ABORTED, n, 0],
+        Answer::Refused(c) => [ANSWER_REFUSED, c, 0, 0],
+        Answer::Started(n) => [ANSWER_STARTED, n, 0, 0],
+        Answer::Read(v) => [ANSWER_READ, v.holder, v.moves, 0],
+        Answer::Written => [ANSWER_WRITTEN, 0, 0, 0],
+        Answer::Committed(t) => [ANSWER_COMMITTED, t, 0, 0],
+        Answer::Failed(t, k) => [ANSWER_FAILED, t, k, 0],
+        Answer::Aborted(n) => [ANSWER_ABORTED, n, 0, 0],
+        Answer::Added => [ANSWER_ADDED, 0, 0, 0],
+        Answer::ReadSum(v, sum) => [ANSWER_READ_SUM, v.holder, v.moves, sum as u64],
     }
 }
 
@@ -214,6 +220,9 @@ pub fn decode(words: &[u64]) -> Option<Table> {
             a.reads[k] = row[READS + k].checked_sub(1);
             a.writes[k] = row[WRITES + k];
         }
+        for c in 0..CHARGE_ACCOUNTS {
+            a.pending[c] = row[PENDING + c] as i64;
+        }
         a
     });
     Some(Table { started: words[STARTED], counter: words[COUNTER], actions: actions.collect() })
@@ -230,6 +239,9 @@ pub fn encode(t: &Table, words: &mut [u64]) {
         for k in 0..ACCOUNTS {
             row[READS + k] = a.reads[k].map_or(0, |t| t + 1);
             row[WRITES + k] = a.writes[k];
+        }
+        for c in 0..CHARGE_ACCOUNTS {
+            row[PENDING + c] = a.pending[c] as u64;
         }
     }
 }

@@ -3,13 +3,13 @@
 use crate::cause;
 use crate::coverage::Coverage;
 use crate::dayfile::event_bytes;
-use crate::generate::{bytes, events, shape};
-use crate::header::{ANSWER_WORDS, BASE_BYTES, CARD_BYTES, SHADOW_BYTES, TABLE_WORDS};
+use crate::generate::{any_base, bytes, events, shape};
+use crate::header::{ANSWER_WORDS, CARD_BYTES, SHADOW_BYTES, TABLE_WORDS};
 use crate::library::{answer, encode, Lent};
-use crate::model::{Answer, Card, Event, Ledger, Shown};
+use crate::model::{amount_in, base_card, Answer, Event, Ledger, Shown, FIRST_CHARGE};
 use crate::random::Random;
 use crate::same::{same, same_bytes, same_lent, same_words, Compared};
-use crate::serial::serial_run;
+use crate::serial::{added_in_r, serial_run, Given};
 use crate::shrink::{described, smallest_list};
 use std::collections::HashMap;
 
@@ -28,7 +28,7 @@ pub struct Opening {
 
 impl Opening {
     pub fn any(r: &mut Random) -> Opening {
-        Opening { base: bytes(r, BASE_BYTES), shadow: bytes(r, SHADOW_BYTES) }
+        Opening { base: any_base(r), shadow: bytes(r, SHADOW_BYTES) }
     }
 
     pub fn lend(&self) -> Lent {
@@ -45,7 +45,7 @@ fn list(opening: &Opening, events: &[Event], seen: &mut Coverage) -> Compared {
     let mut ledger = Ledger::new(opening.base.clone(), opening.shadow.clone());
     let mut expected = vec![0; TABLE_WORDS];
     let mut answers = Vec::with_capacity(events.len());
-    let mut given: HashMap<usize, Card> = HashMap::new();
+    let mut given: HashMap<usize, Given> = HashMap::new();
     for (i, e) in events.iter().enumerate() {
         let a = lent.event(e);
         same("answer", a, ledger.event(e))?;
@@ -55,16 +55,26 @@ fn list(opening: &Opening, events: &[Event], seen: &mut Coverage) -> Compared {
         same_bytes("shadow store", &lent.shadow, &ledger.shadow)?;
         let shown = lent.look(e.number, e.account);
         same("look", shown, ledger.look(e.number, e.account))?;
-        if let (Answer::Read(_), Ok(Shown { card, .. })) = (a, shown) {
-            given.insert(i, card);
+        if let (Some(amount), Ok(Shown { card, .. })) = (read_amount(a), shown) {
+            given.insert(i, Given { card, amount });
         }
-        seen.answer(a);
+        seen.answer(e, a);
         answers.push(a);
     }
     same("totals", lent.totals(), (ledger.table.started, ledger.table.counter))?;
     seen.lists += 1;
     held_to_serial_run(opening, events, &answers, &given, &lent.base, seen)?;
+    nothing_lost(opening, events, &answers, &lent.base, seen)?;
     in_one_call(opening, events, &answers, &lent, seen)
+}
+
+/// The amount that a read was given, if any; None where the answer is no read's.
+fn read_amount(a: Answer) -> Option<Option<i128>> {
+    match a {
+        Answer::Read(_) => Some(None),
+        Answer::ReadSum(_, sum) => Some(Some(sum.into())),
+        _ => None,
+    }
 }
 
 /// The claim of docs/RULES.md, 6.6, by running: the serial run against what the library showed and left.
@@ -72,17 +82,29 @@ fn held_to_serial_run(
     opening: &Opening,
     events: &[Event],
     answers: &[Answer],
-    given: &HashMap<usize, Card>,
+    given: &HashMap<usize, Given>,
     base: &[u8],
     seen: &mut Coverage,
 ) -> Compared {
     let serial = serial_run(events, answers, &opening.base);
-    for (event, card) in &serial.reads {
-        let what = format!("serial run: the card read at event {}", event + 1);
-        same(&what, given.get(event), Some(card))?;
+    for (event, here) in &serial.reads {
+        let what = format!("serial run: what was read at event {}", event + 1);
+        same(&what, given.get(event), Some(here))?;
         seen.serial_reads += 1;
+        seen.serial_sums += u64::from(here.amount.is_some());
     }
     same_bytes("serial run: the base store", base, &serial.base)
+}
+
+/// Of each charge account what stood there and what was added make what stands there (docs/RULES.md, 6.7).
+fn nothing_lost(opening: &Opening, events: &[Event], answers: &[Answer], base: &[u8], seen: &mut Coverage) -> Compared {
+    for (charge, added) in added_in_r(events, answers).into_iter().enumerate() {
+        let account = FIRST_CHARGE + charge;
+        let amount = |store: &[u8]| i128::from(amount_in(&store[base_card(account)]));
+        same(&format!("the amount of account {account}"), amount(base), amount(&opening.base) + added)?;
+        seen.amounts_held += u64::from(added != 0);
+    }
+    Ok(())
 }
 
 fn in_one_call(opening: &Opening, events: &[Event], answers: &[Answer], after: &Lent, seen: &mut Coverage) -> Compared {
@@ -112,9 +134,10 @@ pub fn check_lists(count: u64, seed: u64, seen: &mut Coverage) -> Compared {
         let (shape, in_bytes) = (shape(&mut r), r.one_in(2));
         let longest = *r.pick(&LONGEST);
         let length = 1 + r.below(longest) as usize;
-        let events = events(&mut r, length, shape, in_bytes);
+        let events = events(&mut r, &opening.base, length, shape, in_bytes);
         if let Err(text) = list(&opening, &events, seen) {
-            let small = smallest_list(&events, |part| list(&opening, part, &mut Coverage::default()).is_err());
+            let differs = |part: &[Event]| list(&opening, part, &mut Coverage::default()).is_err();
+            let small = smallest_list(&events, &opening.base, differs);
             let why = list(&opening, &small, &mut Coverage::default()).err().unwrap_or(text);
             return Err(format!("{why}\nafter {}", described(&small)));
         }

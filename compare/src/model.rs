@@ -10,7 +10,34 @@ const _: () = assert!(SHADOW_BYTES == ACTIONS * BASE_BYTES, "the shadow store ha
 /// The parent of a topaction.
 pub const STORE: u64 = 0;
 
+/// The charge accounts are this one and all above it.
+pub const FIRST_CHARGE: usize = 24;
+pub const CHARGE_ACCOUNTS: usize = ACCOUNTS - FIRST_CHARGE;
+/// The most that one add may add or take away.
+pub const MOST_ADDED: i64 = 1_000_000;
+/// An amount stands in the front of a charge account's card.
+pub const AMOUNT_BYTES: usize = 8;
+
 pub type Card = [u8; CARD_BYTES];
+
+/// Which of the charge accounts it is, from 0; None for another account.
+pub fn charge_of(account: usize) -> Option<usize> {
+    account.checked_sub(FIRST_CHARGE)
+}
+
+/// The amount in the front of a card.
+pub fn amount_in(card: &[u8]) -> i64 {
+    i64::from_le_bytes(*card.first_chunk().expect("a card has room for an amount"))
+}
+
+pub fn put_amount(card: &mut [u8], amount: i64) {
+    card[..AMOUNT_BYTES].copy_from_slice(&amount.to_le_bytes());
+}
+
+/// An exact sum as an amount, where it is one.
+fn as_amount(sum: i128) -> Result<i64, u64> {
+    sum.try_into().map_err(|_| cause::SUM)
+}
 
 #[derive(Clone, Copy, PartialEq, Eq, Debug)]
 pub enum State {
@@ -29,11 +56,23 @@ pub struct Action {
     pub reads: [Option<u64>; ACCOUNTS],
     /// Not 0 for each account in the write set.
     pub writes: [u64; ACCOUNTS],
+    /// The pending sum of each charge account.
+    pub pending: [i64; CHARGE_ACCOUNTS],
 }
 
 impl Action {
     pub fn new(parent: u64) -> Action {
-        Action { parent, state: State::Live, end: 0, reads: [None; ACCOUNTS], writes: [0; ACCOUNTS] }
+        let (reads, writes, pending) = ([None; ACCOUNTS], [0; ACCOUNTS], [0; CHARGE_ACCOUNTS]);
+        Action { parent, state: State::Live, end: 0, reads, writes, pending }
+    }
+
+    /// Whether it has a card of its own for the account; of a charge account nobody has one.
+    fn has_card(&self, account: usize) -> bool {
+        charge_of(account).is_none() && self.writes[account] != 0
+    }
+
+    fn has_charged(&self, charge: usize) -> bool {
+        self.writes[FIRST_CHARGE + charge] != 0
     }
 
     fn wrote_something(&self) -> bool {
@@ -71,6 +110,7 @@ pub enum Unsound {
     ReadTime,
     EndTime,
     EndTimeTwice,
+    Pending,
 }
 
 impl Table {
@@ -129,6 +169,9 @@ impl Table {
                 return Err(Unsound::EndTimeTwice);
             }
         }
+        if (0..CHARGE_ACCOUNTS).any(|c| a.pending[c] != 0 && !a.has_charged(c)) {
+            return Err(Unsound::Pending);
+        }
         Ok(())
     }
 
@@ -149,11 +192,21 @@ impl Table {
     /// Climbs from an action to the first that has the account's card, and counts its moves; the last may be to the store.
     pub fn nearest(&self, n: u64, account: usize) -> Version {
         let mut at = Version { holder: n, moves: 0 };
-        while at.holder != STORE && self.action(at.holder).writes[account] == 0 {
+        while at.holder != STORE && !self.action(at.holder).has_card(account) {
             at.holder = self.action(at.holder).parent;
             at.moves += 1;
         }
         at
+    }
+
+    /// What an action and all above it have pending for a charge account, together.
+    fn pending_above(&self, mut n: u64, charge: usize) -> i128 {
+        let mut sum = 0;
+        while n != STORE {
+            sum += i128::from(self.action(n).pending[charge]);
+            n = self.action(n).parent;
+        }
+        sum
     }
 
     /// The first clash: by end time, then by account.
@@ -194,6 +247,9 @@ pub enum Answer {
     Committed(u64),
     Failed(u64, u64),
     Aborted(u64),
+    Added,
+    /// The nearest version of a charge account, and the sum there.
+    ReadSum(Version, i64),
 }
 
 /// What a look shows: a card, and how many moves up it was found.
@@ -235,10 +291,10 @@ impl Ledger {
         self.table.soundness().err().map(|_| cause::UNSOUND)
     }
 
-    /// Causes 3 to 9.
+    /// The causes 3 to 8, 13, 14 and 9, in this order: all that are left but 15, which is asked where a sum is made.
     fn event_cause(&self, e: &Event) -> Option<u64> {
         let t = &self.table;
-        if !(EVENT_START..=EVENT_ABORT).contains(&e.code) {
+        if !(EVENT_START..=EVENT_ADD).contains(&e.code) {
             return Some(cause::CODE);
         }
         let starts = e.code == EVENT_START;
@@ -251,14 +307,8 @@ impl Ledger {
         if starts {
             return (t.started >= ACTIONS as u64).then_some(cause::TABLE_FULL);
         }
-        let on_account = e.code == EVENT_READ || e.code == EVENT_WRITE;
-        if on_account && e.account >= ACCOUNTS as u64 {
-            return Some(cause::ACCOUNT);
-        }
-        if e.code == EVENT_WRITE && e.card.len() != CARD_BYTES {
-            return Some(cause::CARD_LENGTH);
-        }
-        (e.code != EVENT_ABORT && t.has_live_child(e.number)).then_some(cause::CHILD_LIVE)
+        let beside_child = || e.code != EVENT_ABORT && t.has_live_child(e.number);
+        account_cause(e).or_else(|| beside_child().then_some(cause::CHILD_LIVE))
     }
 
     /// One event on any table and stores.
@@ -274,13 +324,15 @@ impl Ledger {
         if let Some(cause) = self.event_cause(e) {
             return Answer::Refused(cause);
         }
-        match e.code {
-            EVENT_START => self.start(e.number),
+        let done = match e.code {
+            EVENT_START => Ok(self.start(e.number)),
             EVENT_READ => self.read(e.number, e.account as usize),
-            EVENT_WRITE => self.write(e.number, e.account as usize, &e.card),
+            EVENT_WRITE => Ok(self.write(e.number, e.account as usize, &e.card)),
             EVENT_COMMIT => self.commit(e.number),
-            _ => self.abort(e.number),
-        }
+            EVENT_ADD => self.add(e.number, e.account as usize - FIRST_CHARGE, amount_in(&e.card)),
+            _ => Ok(self.abort(e.number)),
+        };
+        done.unwrap_or_else(Answer::Refused)
     }
 
     fn start(&mut self, parent: u64) -> Answer {
@@ -290,10 +342,26 @@ impl Ledger {
         Answer::Started(n)
     }
 
-    fn read(&mut self, n: u64, account: usize) -> Answer {
+    /// The sum of a charge account as an action sees it; none for another account.
+    fn sum_seen(&self, n: u64, account: usize) -> Result<Option<i64>, u64> {
+        let Some(charge) = charge_of(account) else { return Ok(None) };
+        let base = i128::from(amount_in(&self.base[base_card(account)]));
+        as_amount(base + self.table.pending_above(n, charge)).map(Some)
+    }
+
+    fn read(&mut self, n: u64, account: usize) -> Result<Answer, u64> {
+        let sum = self.sum_seen(n, account)?;
         let now = self.table.counter;
         self.table.action_mut(n).reads[account].get_or_insert(now);
-        Answer::Read(self.table.nearest(n, account))
+        let version = self.table.nearest(n, account);
+        Ok(sum.map_or(Answer::Read(version), |sum| Answer::ReadSum(version, sum)))
+    }
+
+    fn add(&mut self, n: u64, charge: usize, amount: i64) -> Result<Answer, u64> {
+        let me = self.table.action_mut(n);
+        me.pending[charge] = as_amount(i128::from(me.pending[charge]) + i128::from(amount))?;
+        me.writes[FIRST_CHARGE + charge] = 1;
+        Ok(Answer::Added)
     }
 
     fn write(&mut self, n: u64, account: usize, card: &[u8]) -> Answer {
@@ -302,11 +370,12 @@ impl Ledger {
         Answer::Written
     }
 
-    fn commit(&mut self, n: u64) -> Answer {
+    fn commit(&mut self, n: u64) -> Result<Answer, u64> {
         if let Some((end, account)) = self.table.first_clash(n) {
             self.table.action_mut(n).state = State::Aborted;
-            return Answer::Failed(end, account);
+            return Ok(Answer::Failed(end, account));
         }
+        let sums = self.sums_left(self.table.action(n))?;
         let wrote = self.table.action(n).wrote_something();
         if wrote {
             self.table.counter += 1;
@@ -317,14 +386,38 @@ impl Ledger {
         me.end = end;
         let me = me.clone();
         self.hand_up_cards(n, &me);
+        self.hand_up_sums(me.parent, &sums);
         if me.parent != STORE {
             join(self.table.action_mut(me.parent), &me);
         }
-        Answer::Committed(end)
+        Ok(Answer::Committed(end))
+    }
+
+    /// What an action's commit leaves of each charge account in its write set, at its parent or in the base store.
+    fn sums_left(&self, me: &Action) -> Result<[Option<i64>; CHARGE_ACCOUNTS], u64> {
+        let mut sums = [None; CHARGE_ACCOUNTS];
+        for c in (0..CHARGE_ACCOUNTS).filter(|&c| me.has_charged(c)) {
+            let above = match me.parent {
+                STORE => amount_in(&self.base[base_card(FIRST_CHARGE + c)]),
+                parent => self.table.action(parent).pending[c],
+            };
+            sums[c] = Some(as_amount(i128::from(above) + i128::from(me.pending[c]))?);
+        }
+        Ok(sums)
+    }
+
+    fn hand_up_sums(&mut self, parent: u64, sums: &[Option<i64>]) {
+        for (c, sum) in sums.iter().enumerate() {
+            let Some(sum) = *sum else { continue };
+            match parent {
+                STORE => put_amount(&mut self.base[base_card(FIRST_CHARGE + c)], sum),
+                _ => self.table.action_mut(parent).pending[c] = sum,
+            }
+        }
     }
 
     fn hand_up_cards(&mut self, n: u64, me: &Action) {
-        for k in (0..ACCOUNTS).filter(|&k| me.writes[k] != 0) {
+        for k in (0..ACCOUNTS).filter(|&k| me.has_card(k)) {
             let own = shadow_card(n, k);
             if me.parent == STORE {
                 self.base[base_card(k)].copy_from_slice(&self.shadow[own]);
@@ -351,6 +444,7 @@ impl Ledger {
             return Err(cause);
         }
         let k = account as usize;
+        self.sum_seen(n, k)?;
         let Version { holder, moves } = self.table.nearest(n, k);
         let part = match holder {
             STORE => &self.base[base_card(k)],
@@ -358,6 +452,29 @@ impl Ledger {
         };
         Ok(Shown { card: part.try_into().expect("a card's length"), moves })
     }
+}
+
+/// The causes 7, 8, 13 and 14, of an event that is about an account.
+fn account_cause(e: &Event) -> Option<u64> {
+    let adds = e.code == EVENT_ADD;
+    let has_card = adds || e.code == EVENT_WRITE;
+    if !has_card && e.code != EVENT_READ {
+        return None;
+    }
+    if e.account >= ACCOUNTS as u64 {
+        return Some(cause::ACCOUNT);
+    }
+    if !has_card {
+        return None;
+    }
+    if e.card.len() != CARD_BYTES {
+        return Some(cause::CARD_LENGTH);
+    }
+    if adds != charge_of(e.account as usize).is_some() {
+        return Some(cause::KIND_OF_ACCOUNT);
+    }
+    let is_small = (-MOST_ADDED..=MOST_ADDED).contains(&amount_in(&e.card));
+    (adds && !is_small).then_some(cause::AMOUNT)
 }
 
 /// The union of both sets; of two read times the smaller.

@@ -1,3 +1,4 @@
-// Parents and children: the live children of a parent, and the way up from an action to the store.
+// Parents and children: the live children of a parent, the way up from an action to the store, and what is seen there.
+pub mod charge;
 pub mod children;
 pub mod walk;

@@ -1,5 +1,6 @@
 // Going up the parents.
 ghost use mathlib.Core.Path.{_≡_};
+ghost use Rattle.rules.specs.Card.{IsPlain};
 ghost use Rattle.rules.specs.Walk.{isAtOrBelow};
 ghost use Rattle.rules.specs.Nearest.{version};
 ghost use Rattle.ancestry.specs.Ancestry.{ParentsBelow, IsKnown, Readable, HasMovesLeft, countedOn};
@@ -12,6 +13,7 @@ use rules::table::STORE;
 // The nearest version seen from n, after the moves already made on the way there.
 fn climb(table: &[u64], n: u64, k: u64, moves: u64) -> Version
     requires { ⌜ Readable (now table) n k ⌝ }
+    requires { ⌜ IsPlain k ⌝ }
     requires { ⌜ HasMovesLeft (now table) n k moves ⌝ }
     ensures { λ r. ⌜ r ≡ countedOn moves (version (now (table .entry)) n k) ⌝ }
 {
@@ -27,9 +29,11 @@ fn climb(table: &[u64], n: u64, k: u64, moves: u64) -> Version
     climb(table, parent(table, n), k, moves + 1)
 }
 
-// The nearest version: its holder, and the moves up to it, by one walk.
+// The nearest version: its holder, and the moves up to it, by one walk. (Of a charge account it is always the base card:
+// charge.rt.)
 pub fn nearest(table: &[u64], n: u64, k: u64) -> Version
     requires { ⌜ Readable (now table) n k ⌝ }
+    requires { ⌜ IsPlain k ⌝ }
     ensures { λ r. ⌜ r ≡ version (now (table .entry)) n k ⌝ }
 {
     climb(table, n, k, NO_MOVES)

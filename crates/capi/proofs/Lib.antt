@@ -1,3 +1,2 @@
--- What a C caller is given of an answer, and of a look.
-mod AnswerWords
+-- What a C caller is given of a look.
 mod CopiedCard

@@ -1,4 +1,4 @@
--- RULES 5 and 11.5: an answer as three numbers, and the card of a look, as a C caller is given them. Assumes nothing.
+-- RULES 5 and 11.5: an answer as four numbers, and the card of a look, as a C caller is given them. Assumes nothing.
 use Prim.Native.Nat.{ℕ}
 use mathlib.Core.Path.{_≡_}
 use mathlib.Core.List.{List, _++_}

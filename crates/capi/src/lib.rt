@@ -40,7 +40,7 @@ pub extern "C" fn mundzavch_counter(table: &[u64]) -> u64
     table::counter(table)
 }
 
-// event::event: back comes the answer's kind, and its numbers in `first` and `second`.
+// event::event: back comes the answer's kind, and its numbers in `first`, `second` and `third`.
 #[no_mangle]
 pub extern "C" fn mundzavch_event(
     table: &mut [u64],
@@ -52,8 +52,9 @@ pub extern "C" fn mundzavch_event(
     card: &[u8],
     first: &mut u64,
     second: &mut u64,
+    third: &mut u64,
 ) -> u64
-    ensures { λ r. ⌜ GivesWords (r ∷ now (first .exit) ∷ now (second .exit) ∷ [])
+    ensures { λ r. ⌜ GivesWords (r ∷ now (first .exit) ∷ now (second .exit) ∷ now (third .exit) ∷ [])
         (now (table .exit)) (now (base .exit)) (now (shadow .exit))
         (step (ledgerOf (now (table .entry)) (now (base .entry)) (now (shadow .entry)))
         (eventOf code number account (now (card .entry)))) ⌝ }
@@ -62,6 +63,7 @@ pub extern "C" fn mundzavch_event(
     let words = lists::answer::words(answer);
     *first = words[1];
     *second = words[2];
+    *third = words[3];
     words[0]
 }
 

@@ -3,11 +3,13 @@
 use Prim.Native.Nat.{ℕ}
 use mathlib.Core.List.{List, [], _∷_, map}
 use lib.ListN.{replicate}
+use lib.IntN.{ℤ, pos, negℤ}
 use Rattle.rules.specs.declared.Answer.{Answer}
-use Rattle.rules.specs.declared.Answer.the-variants.{Started, Read, Written, Committed, Failed, Aborted, Refused}
+use Rattle.rules.specs.declared.Answer.the-variants.{Started, Read, ReadSum, Written, Added, Committed, Failed, Aborted, Refused}
 use Rattle.rules.specs.Card.{cardLength, baseLength, shadowLength, basePlace, cardAt}
+use Rattle.rules.specs.Amount.{withAmount}
 use Rattle.rules.specs.Table.{newTable, started, counter}
-use Rattle.rules.specs.Event.{Event, startUnder, readBy, writeBy, commitOf, abortOf}
+use Rattle.rules.specs.Event.{Event, eventOf, startUnder, readBy, writeBy, commitOf, abortOf, addBy}
 use Rattle.rules.specs.Look.{look, bytesOf}
 use Rattle.rules.specs.Ledger.{Ledger}
 use Rattle.rules.specs.Run.{run}
@@ -19,6 +21,10 @@ opening = record { table = newTable; base = replicate baseLength 0; shadow = rep
 -- a card of 32 bytes b
 abbrev pub filledWith : ℕ → List ℕ
 filledWith b = replicate cardLength b
+
+-- a card of zeros but for its amount
+abbrev pub amountCard : ℤ → List ℕ
+amountCard z = withAmount (filledWith 0) z
 
 -- an action and an account to look at, once the events are done
 pub record Spot : Type 0 where
@@ -82,6 +88,13 @@ showing b moves = record { cause = 0; card = filledWith b; moves = moves }
 
 abbrev refusing : ℕ → Shown
 refusing cause = record { cause = cause; card = []; moves = 0 }
+
+-- n adds so many cents to charge account k, or takes them away
+abbrev pub adding : ℕ → ℕ → ℕ → Event
+adding n k cents = addBy n k (amountCard (pos cents))
+
+abbrev pub taking : ℕ → ℕ → ℕ → Event
+taking n k cents = addBy n k (amountCard (negℤ (pos cents)))
 
 abbrev case : Question → Result → Case
 case q r = record { question = q; expected = r }
@@ -161,4 +174,42 @@ cases =
     (giving
     (Started 1 ∷ Written ∷ Started 2 ∷ Started 3 ∷ Read 1 2 ∷ Read 0 3 ∷ Written
     ∷ Read 3 0 ∷ Committed 1 ∷ Read 2 0 ∷ []) 3 1 [] (showing 1 1 ∷ showing 2 0 ∷ showing 0 2 ∷ refusing 9 ∷ []))
+    -- 15
+    ∷ case
+    (asking
+    (startUnder 0 ∷ startUnder 0 ∷ adding 1 24 500 ∷ taking 2 24 200 ∷ commitOf 1 ∷ commitOf 2 ∷ startUnder 0 ∷ readBy 3 24
+    ∷ commitOf 3 ∷ []) (24 ∷ []) [])
+    (giving
+    (Started 1 ∷ Started 2 ∷ Added ∷ Added ∷ Committed 1 ∷ Committed 2 ∷ Started 3 ∷ ReadSum 0 1 300
+    ∷ Committed 0 ∷ []) 3 2 (amountCard (pos 300) ∷ []) [])
+    -- 16
+    ∷ case
+    (asking
+    (startUnder 0 ∷ startUnder 0 ∷ readBy 1 24 ∷ adding 1 24 5 ∷ adding 2 24 7 ∷ commitOf 2 ∷ commitOf 1 ∷ []) [] [])
+    (giving
+    (Started 1 ∷ Started 2 ∷ ReadSum 0 1 0 ∷ Added ∷ Added ∷ Committed 1 ∷ Failed 1 24 ∷ []) 2 1 [] [])
+    -- 17
+    ∷ case
+    (asking
+    (startUnder 0 ∷ startUnder 0 ∷ readBy 2 30 ∷ adding 1 30 0 ∷ commitOf 1 ∷ commitOf 2 ∷ []) [] [])
+    (giving
+    (Started 1 ∷ Started 2 ∷ ReadSum 0 1 0 ∷ Added ∷ Committed 1 ∷ Failed 1 30 ∷ []) 2 1 [] [])
+    -- 18
+    ∷ case
+    (asking
+    (startUnder 0 ∷ adding 1 24 100 ∷ startUnder 1 ∷ taking 2 24 30 ∷ readBy 2 24 ∷ startUnder 2 ∷ readBy 3 24 ∷ commitOf 3
+    ∷ commitOf 2 ∷ readBy 1 24 ∷ commitOf 1 ∷ []) (24 ∷ []) [])
+    (giving
+    (Started 1 ∷ Added ∷ Started 2 ∷ Added ∷ ReadSum 0 2 70 ∷ Started 3 ∷ ReadSum 0 3 70 ∷ Committed 0
+    ∷ Committed 1 ∷ ReadSum 0 1 70 ∷ Committed 2 ∷ []) 3 2 (amountCard (pos 70) ∷ []) [])
+    -- 19
+    ∷ case
+    (asking
+    (startUnder 0 ∷ startUnder 1 ∷ adding 1 5 0 ∷ adding 1 24 2000000 ∷ adding 1 24 1 ∷ adding 2 40 1 ∷ adding 2 23 1
+    ∷ writeBy 2 24 (filledWith 0) ∷ adding 2 24 1000001 ∷ taking 2 24 1000001 ∷ adding 2 24 1000000 ∷ taking 2 31 1000000
+    ∷ eventOf 7 2 24 (filledWith 0) ∷ commitOf 1 ∷ []) [] [])
+    (giving
+    (Started 1 ∷ Started 2 ∷ Refused 13 ∷ Refused 14 ∷ Refused 9 ∷ Refused 7 ∷ Refused 13
+    ∷ Refused 13 ∷ Refused 14 ∷ Refused 14 ∷ Added ∷ Added
+    ∷ Refused 3 ∷ Refused 9 ∷ []) 2 0 [] [])
     ∷ []

@@ -1,45 +1,59 @@
--- One list worked through as a serial run: a child that commits stands at its commit, one that gives up is nowhere.
--- proofs/Cases.antt computes it. Assumes nothing.
+-- One list worked through as a serial run: a child that commits stands at its commit, one that gives up is nowhere; what was
+-- added is seen by who adds and settled at the end. proofs/Cases.antt computes it. Assumes nothing.
 use Prim.Native.Nat.{ℕ}
+use mathlib.Core.Option.{none, some}
 use mathlib.Core.List.{List, [], _∷_}
+use lib.IntN.{pos}
 use Rattle.rules.specs.Card.{basePlace, cardAt}
 use Rattle.rules.specs.Event.{Event, startUnder, readBy, writeBy, commitOf, abortOf}
 use Rattle.rules.specs.Run.{run}
-use Rattle.cases.specs.Case.{opening, filledWith}
+use Rattle.cases.specs.Case.{opening, filledWith, amountCard, adding, taking}
 use Rattle.rules.specs.Serial.Machine.{Given, serial}
 
 unfoldable pub example : List Event
 example =
-    -- 1 reads account 0, which shows the opening card
+    -- 1 reads account 0, which shows the opening card, and adds 100 to account 24
     startUnder 0
     ∷ readBy 1 0
-    -- its child 2 writes the account and commits
+    ∷ adding 1 24 100
+    -- its child 2 writes account 0, takes 30 away from account 24, reads that, and commits
     ∷ startUnder 1
     ∷ writeBy 2 0 (filledWith 5)
+    ∷ taking 2 24 30
+    ∷ readBy 2 24
     ∷ commitOf 2
-    -- its child 3 writes it too and gives up
+    -- its child 3 writes and adds too, and gives up
     ∷ startUnder 1
     ∷ writeBy 3 0 (filledWith 9)
+    ∷ adding 3 24 9
     ∷ abortOf 3
-    -- 1 reads it again, and commits
+    -- 1 reads both again, and commits
     ∷ readBy 1 0
+    ∷ readBy 1 24
     ∷ commitOf 1
     ∷ []
 
--- what the serial run gives its reads, and the card of account 0 that it leaves
+-- what the serial run gives its reads, and the cards of accounts 0 and 24 that it leaves
 pub record Serially : Type 0 where
   pub given : List Given
   pub left : List ℕ
+  pub charged : List ℕ
 
 unfoldable pub exampleRun : Serially
 exampleRun =
     let m = serial example (run opening example .answers) (opening .base) in
-    record { given = m .given; left = cardAt (m .base) (basePlace 0) }
+    record { given = m .given; left = cardAt (m .base) (basePlace 0); charged = cardAt (m .base) (basePlace 24) }
 
--- the reads at places 1 and 8
+-- the reads at places 1, 6, 12 and 13
 unfoldable pub exampleExpected : Serially
 exampleExpected =
     record {
-      given = record { place = 1; card = filledWith 0 } ∷ record { place = 8; card = filledWith 5 } ∷ [];
+      given =
+          record { place = 1; card = filledWith 0; amount = none }
+          ∷ record { place = 6; card = filledWith 0; amount = some (pos 70) }
+          ∷ record { place = 12; card = filledWith 5; amount = none }
+          ∷ record { place = 13; card = filledWith 0; amount = some (pos 70) }
+          ∷ [];
       left = filledWith 5;
+      charged = amountCard (pos 70);
     }

@@ -4,17 +4,21 @@ ghost use mathlib.Core.Bool.{cond};
 ghost use Prim.Native.Nat.{_≤_};
 ghost use Rattle.rules.specs.Table.{started, hasLiveChild};
 ghost use Rattle.rules.specs.Sound.{Sound};
-ghost use Rattle.rules.specs.Event.{eventOf, readCode, abortCode};
-ghost use Rattle.rules.specs.Cause.{firstCause, childLiveCause, storeCauses, eventCauses};
-ghost use Rattle.causes.specs.Groups.{startCauses, kindCauses};
+ghost use Rattle.rules.specs.Event.{eventOf, readCode, addCode};
+ghost use Rattle.rules.specs.Cause.{firstCause, childLiveCause, storeCauses, earlyCauses};
+ghost use Rattle.causes.specs.Groups.{startCauses, kindCauses, cardCauses, writeCauses, addCauses};
+use amounts::bytes::word_at;
+use amounts::limit::is_addable;
 use ancestry::children::has_live_child;
 use rows::fields::is_live;
 use rows::fields::last_start;
+use rules::amount::AMOUNT_AT;
 use rules::cause;
 use rules::event;
 use rules::store::ACCOUNTS;
 use rules::store::BASE_LENGTH;
 use rules::store::CARD_LENGTH;
+use rules::store::FIRST_CHARGE;
 use rules::store::SHADOW_LENGTH;
 use rules::table::MOST_ACTIONS;
 use rules::table::STORE;
@@ -36,15 +40,15 @@ pub fn store_cause(table: &[u64], base: &[u8], shadow: &[u8]) -> u64
     cause::NONE
 }
 
-// Causes 3 to 9, of a table that is sound.
+// All other causes but the last, of a table that is sound.
 pub fn event_cause(table: &[u64], code: u64, number: u64, account: u64, card: &[u8]) -> u64
     requires { ⌜ Sound (now table) ⌝ }
-    ensures { λ r. ⌜ r ≡ firstCause (eventCauses (now (table .entry)) (eventOf code number account (now (card .entry)))) ⌝ }
+    ensures { λ r. ⌜ r ≡ firstCause (earlyCauses (now (table .entry)) (eventOf code number account (now (card .entry)))) ⌝ }
 {
     if code < event::START {
         return cause::CODE;
     }
-    if event::ABORT < code {
+    if event::ADD < code {
         return cause::CODE;
     }
     if last_start(table) < number {
@@ -79,10 +83,10 @@ fn start_cause(table: &[u64], number: u64) -> u64
     cause::NONE
 }
 
-// Causes 7, 8 and 9, of an event that is no start, by an action that is live.
+// The causes from 7 on, of an event that is no start, by an action that is live.
 fn kind_cause(table: &[u64], code: u64, number: u64, account: u64, card: &[u8]) -> u64
     requires { ⌜ Sound (now table) ⌝ }
-    requires { ⌜ (readCode ≤ code) × (code ≤ abortCode) ⌝ }
+    requires { ⌜ (readCode ≤ code) × (code ≤ addCode) ⌝ }
     ensures { λ r. ⌜ r ≡ firstCause (kindCauses (now (table .entry)) (eventOf code number account (now (card .entry)))) ⌝ }
 {
     if code == event::ABORT {
@@ -94,12 +98,51 @@ fn kind_cause(table: &[u64], code: u64, number: u64, account: u64, card: &[u8]) 
     if ACCOUNTS <= account {
         return cause::ACCOUNT;
     }
-    if code == event::WRITE {
-        if card.len() != CARD_LENGTH {
-            return cause::CARD_LENGTH;
-        }
+    let early = card_cause(code, account, card);
+    if early != cause::NONE {
+        return early;
     }
     child_cause(table, number)
+}
+
+// Causes 8, 13 and 14, by the code: only a write and an add have a card.
+fn card_cause(code: u64, account: u64, card: &[u8]) -> u64
+    ensures { λ r. ⌜ r ≡ firstCause (cardCauses code account (now (card .entry))) ⌝ }
+{
+    if code == event::WRITE {
+        return write_cause(account, card);
+    }
+    if code == event::ADD {
+        return add_cause(account, card);
+    }
+    cause::NONE
+}
+
+fn write_cause(account: u64, card: &[u8]) -> u64
+    ensures { λ r. ⌜ r ≡ firstCause (writeCauses account (now (card .entry))) ⌝ }
+{
+    if card.len() != CARD_LENGTH {
+        return cause::CARD_LENGTH;
+    }
+    if FIRST_CHARGE <= account {
+        return cause::KIND;
+    }
+    cause::NONE
+}
+
+fn add_cause(account: u64, card: &[u8]) -> u64
+    ensures { λ r. ⌜ r ≡ firstCause (addCauses account (now (card .entry))) ⌝ }
+{
+    if card.len() != CARD_LENGTH {
+        return cause::CARD_LENGTH;
+    }
+    if account < FIRST_CHARGE {
+        return cause::KIND;
+    }
+    if !is_addable(word_at(card, AMOUNT_AT)) {
+        return cause::AMOUNT;
+    }
+    cause::NONE
 }
 
 fn child_cause(table: &[u64], number: u64) -> u64

@@ -3,8 +3,8 @@ use Prim.Native.Nat.{ℕ, _+_, _≤_}
 use mathlib.Core.Bool.{cond}
 use mathlib.Core.List.{List}
 use lib.ListN.{length}
-use Rattle.rules.specs.Range.{fold}
-use Rattle.rules.specs.Card.{accounts, baseLength, basePlace, cardAt, withCard}
+use Rattle.rules.specs.Range.{upFrom, fold}
+use Rattle.rules.specs.Card.{firstCharge, baseLength, basePlace, cardAt, withCard}
 use Rattle.rules.specs.Table.{mostActions, hasWritten}
 
 -- a store has room for all cards of an action from this place on
@@ -16,9 +16,9 @@ abbrev pub copyAccount : List ℕ → ℕ → List ℕ → ℕ → List ℕ → 
 copyAccount w n cards start to k =
     cond (hasWritten w n k) (withCard to (start + basePlace k) (cardAt cards (basePlace k))) to
 
--- the same for every account
+-- the same for every account below the charge accounts
 unfoldable pub copyOwn : List ℕ → ℕ → List ℕ → ℕ → List ℕ → List ℕ
-copyOwn w n cards start to = fold (λ k now. copyAccount w n cards start now k) accounts to
+copyOwn w n cards start to = fold (λ k now. copyAccount w n cards start now k) (upFrom 0 firstCharge) to
 
 -- a count that a word has room to raise
 abbrev pub CanCount : ℕ → Type 0

@@ -1,2 +1,3 @@
--- The cards that a commit copies, and what it asks of the counter.
+-- The cards that a commit copies, the sums that it makes, and what it asks of the counter.
 pub mod Copy
+pub mod Settle

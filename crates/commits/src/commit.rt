@@ -4,14 +4,22 @@ ghost use Rattle.rules.specs.Card.{StoresFit};
 ghost use Rattle.rules.specs.Table.{parentOf};
 ghost use Rattle.rules.specs.Ledger.{ledgerOf};
 ghost use Rattle.rules.specs.Sound.{IsStarted, Sound};
+ghost use mathlib.Core.Bool.{false};
+ghost use Rattle.rules.specs.Cause.{isCommitOutside};
+ghost use Rattle.rules.specs.Clash.{firstClash};
+ghost use Rattle.rules.specs.declared.Found.the-variants.{Nothing};
 ghost use Rattle.rules.specs.Step.{outcomeOf, commitTime, committedUnder, commit};
+ghost use Rattle.commits.specs.Settle.{unlessOutside};
 use crate::copy::copy_cards;
 use crate::end::end;
+use crate::settle::settle;
+use crate::sums::is_outside;
 use rows::fields::parent;
 use rows::fields::set_state;
 use rows::sets::join_sets;
 use rules::Answer;
 use rules::Found;
+use rules::cause::SUM;
 use rules::table::ABORTED;
 use rules::table::STORE;
 use stores::cards::take_cards;
@@ -23,6 +31,7 @@ fn pass(table: &mut [u64], base: &mut [u8], shadow: &mut [u8], n: u64) -> u64
     requires { ⌜ Sound (now table) ⌝ }
     requires { ⌜ IsStarted (now table) n ⌝ }
     requires { ⌜ StoresFit (now base) (now shadow) ⌝ }
+    requires { ⌜ isCommitOutside (now table) (now base) n Nothing ≡ false ⌝ }
     ensures time { λ r. ⌜ r ≡ commitTime (now (table .entry)) n ⌝ }
     ensures leaves { λ r. ⌜ ledgerOf (now (table .exit)) (now (base .exit)) (now (shadow .exit))
         ≡ committedUnder (ledgerOf (now (table .entry)) (now (base .entry)) (now (shadow .entry))) n
@@ -32,6 +41,7 @@ fn pass(table: &mut [u64], base: &mut [u8], shadow: &mut [u8], n: u64) -> u64
     let cards = take_cards(shadow, n);
     if p == STORE {
         copy_cards(table, n, &cards, base, 0);
+        settle(table, n, base);
         return end(table, n);
     }
     copy_cards(table, n, &cards, shadow, cards_place(p));
@@ -40,16 +50,22 @@ fn pass(table: &mut [u64], base: &mut [u8], shadow: &mut [u8], n: u64) -> u64
     time
 }
 
+// Failed, refused where a sum is no amount, or passed.
 pub fn commit(table: &mut [u64], base: &mut [u8], shadow: &mut [u8], n: u64) -> Answer
     requires { ⌜ Sound (now table) ⌝ }
     requires { ⌜ IsStarted (now table) n ⌝ }
     requires { ⌜ StoresFit (now base) (now shadow) ⌝ }
     ensures { λ r. ⌜ outcomeOf r (now (table .exit)) (now (base .exit)) (now (shadow .exit))
-        ≡ commit (ledgerOf (now (table .entry)) (now (base .entry)) (now (shadow .entry))) n ⌝ }
+        ≡ unlessOutside (isCommitOutside (now (table .entry)) (now (base .entry)) n (firstClash (now (table .entry)) n))
+        (ledgerOf (now (table .entry)) (now (base .entry)) (now (shadow .entry)))
+        (commit (ledgerOf (now (table .entry)) (now (base .entry)) (now (shadow .entry))) n) ⌝ }
 {
     let found = first_clash(table, n);
     match found {
         Found::Nothing => {
+            if is_outside(table, base, n) {
+                return Answer::Refused(SUM);
+            }
             let time = pass(table, base, shadow, n);
             Answer::Committed(time)
         }

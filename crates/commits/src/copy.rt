@@ -4,8 +4,9 @@ ghost use Rattle.rules.specs.Card.{IsAccount};
 ghost use Rattle.rows.specs.Row.{HasRow};
 ghost use Rattle.commits.specs.Copy.{CardsFit, copyAccount, copyOwn};
 use rows::fields::has_written;
-use rules::store::ACCOUNTS;
 use rules::store::BASE_LENGTH;
+use rules::store::FIRST_ACCOUNT;
+use rules::store::FIRST_CHARGE;
 use stores::cards::copy_card;
 use stores::place::base_place;
 
@@ -30,7 +31,7 @@ fn copy_account(
     }
 }
 
-// Those of n's cards whose accounts it has written, copied to a store's cards from `start` on.
+// Those of n's cards whose accounts it has written, copied to a store's cards from `start` on; a charge account has none.
 pub(crate) fn copy_cards(
     table: &[u64],
     n: u64,
@@ -42,7 +43,7 @@ pub(crate) fn copy_cards(
     requires { ⌜ CardsFit (now store) start ⌝ }
     ensures { λ r. ⌜ now (store .exit) ≡ copyOwn (now (table .entry)) n (now (cards .entry)) start (now (store .entry)) ⌝ }
 {
-    for k in 0..ACCOUNTS {
+    for k in FIRST_ACCOUNT..FIRST_CHARGE {
         copy_account(table, n, cards, store, start, k);
     }
 }

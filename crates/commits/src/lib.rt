@@ -2,3 +2,5 @@
 pub mod commit;
 mod copy;
 mod end;
+mod settle;
+mod sums;

@@ -2,7 +2,7 @@
 use Prim.Native.Nat.{ℕ}
 use mathlib.Core.Path.{_≡_}
 use mathlib.Core.List.{List}
-use lib.ListN.{length, replicate}
+use lib.ListN.{replicate}
 use Rattle.rules.specs.Range.{upFrom, fold}
 use Rattle.rules.specs.Card.{baseLength, basePlace, withCard}
 use Rattle.dayread.specs.File.{cardCount, accountAt, openingCard, fileFault}
@@ -13,9 +13,6 @@ openingBase file =
     fold (λ i now. withCard now (basePlace (accountAt file i)) (openingCard file i)) (upFrom 0 (cardCount file))
     (replicate baseLength 0)
 
--- what a day asks before it opens: a file without a fault, and bytes for a base store
+-- what a day asks before it opens: a file without a fault
 abbrev pub IsFaultless : List ℕ → Type 0
 IsFaultless file = fileFault file ≡ 0
-
-abbrev pub IsBase : List ℕ → Type 0
-IsBase base = length base ≡ baseLength

@@ -2,9 +2,9 @@
 ghost use mathlib.Core.Path.{_≡_};
 ghost use Prim.Native.Nat.{_+_, _≤_, _<_};
 ghost use lib.ListN.{length, replicate};
-ghost use Rattle.rules.specs.Card.{IsAccount, basePlace, withCard};
+ghost use Rattle.rules.specs.Card.{IsAccount, IsBase, basePlace, withCard};
 ghost use Rattle.dayread.specs.File.{mostCards, accountPlace, accountAt, openingCard};
-ghost use Rattle.dayread.specs.Opening.{IsBase, IsFaultless, openingBase};
+ghost use Rattle.dayread.specs.Opening.{IsFaultless, openingBase};
 use crate::reader::byte_at;
 use rules::day::ACCOUNT_LENGTH;
 use rules::day::CARD_COUNT_LENGTH;

@@ -33,6 +33,9 @@ fn main() {
     print_day(b"siblings-that-only-write.day");
     print_day(b"all-opening-cards.day");
     print_day(b"aborted-trees.day");
+    print_day(b"charges.day");
+    print_day(b"depot-totals.day");
+    print_day(b"sums-at-the-ends.day");
     print_day(b"no-events.day");
     print_day(b"nothing.day");
     print_day(b"mixed-1.day");

@@ -1,11 +1,14 @@
-// An event that has no cause to be refused, by its code.
+// An event that has no cause to be refused but, perhaps, the last, by its code.
 ghost use mathlib.Core.Path.{_≡_};
 ghost use Rattle.rules.specs.Ledger.{ledgerOf};
 ghost use Rattle.rules.specs.Event.{eventOf};
-ghost use Rattle.rules.specs.Cause.{causeOf};
-ghost use Rattle.rules.specs.Step.{outcomeOf, act};
+ghost use Rattle.rules.specs.Card.{StoresFit};
+ghost use Rattle.rules.specs.Sound.{Sound};
+ghost use Rattle.rules.specs.Cause.{firstCause, earlyCauses};
+ghost use Rattle.rules.specs.Step.{outcomeOf, step};
 use commits::commit::commit;
 use events::abort::abort;
+use events::add::add;
 use events::read::read;
 use events::start::start;
 use events::write::write;
@@ -21,9 +24,11 @@ pub(crate) fn act(
     account: u64,
     card: &[u8],
 ) -> Answer
-    requires { ⌜ causeOf (now table) (now base) (now shadow) (eventOf code number account (now card)) ≡ 0 ⌝ }
+    requires { ⌜ Sound (now table) ⌝ }
+    requires { ⌜ StoresFit (now base) (now shadow) ⌝ }
+    requires { ⌜ firstCause (earlyCauses (now table) (eventOf code number account (now card))) ≡ 0 ⌝ }
     ensures { λ r. ⌜ outcomeOf r (now (table .exit)) (now (base .exit)) (now (shadow .exit))
-        ≡ act (ledgerOf (now (table .entry)) (now (base .entry)) (now (shadow .entry)))
+        ≡ step (ledgerOf (now (table .entry)) (now (base .entry)) (now (shadow .entry)))
         (eventOf code number account (now (card .entry))) ⌝ }
 {
     if code == event::START {
@@ -31,8 +36,7 @@ pub(crate) fn act(
         return Answer::Started(n);
     }
     if code == event::READ {
-        let found = read(table, number, account);
-        return Answer::Read(found.holder, found.moves);
+        return read(table, base, number, account);
     }
     if code == event::WRITE {
         write(table, shadow, number, account, card);
@@ -40,6 +44,9 @@ pub(crate) fn act(
     }
     if code == event::COMMIT {
         return commit(table, base, shadow, number);
+    }
+    if code == event::ADD {
+        return add(table, number, account, card);
     }
     let count = abort(table, number);
     Answer::Aborted(count)

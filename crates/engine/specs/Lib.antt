@@ -1,3 +1,4 @@
--- What an event gives back, and where the part of a look lies.
+-- What an event gives back, what a look is at, and where its part lies.
 pub mod Place
 pub mod Promise
+pub mod Sight

@@ -7,7 +7,8 @@ use Rattle.rules.specs.Ledger.{ledgerOf}
 use Rattle.rules.specs.Answer.{said}
 use Rattle.rules.specs.Step.{Outcome}
 
--- the answer says what the outcome's does, and the ledger is the one that the outcome leaves
+-- the answer is the outcome's and says what that says, and the ledger is the one that the outcome leaves
 pub record Gives (answer : Answer) (table base shadow : List ℕ) (o : Outcome) : Type 0 where
+  pub is : answer ≡ o .answer
   pub says : said answer ≡ said (o .answer)
   pub leaves : ledgerOf table base shadow ≡ o .after

@@ -1,2 +1,3 @@
--- What an event asks of its caller.
+-- What an event asks of its caller, and what those that make a sum give back.
 pub mod Asked
+pub mod Sums

@@ -1,25 +1,47 @@
 // A read by an action.
 ghost use mathlib.Core.Path.{_≡_};
-ghost use Rattle.rules.specs.Nearest.{version};
 ghost use Rattle.rules.specs.Step.{readTable};
+ghost use Rattle.rules.specs.Card.{IsBase};
 ghost use Rattle.ancestry.specs.Ancestry.{Readable};
+ghost use Rattle.events.specs.Sums.{readSays, readLeaves};
+use ancestry::charge::seen_by;
 use ancestry::walk::nearest;
 use rows::fields::counter;
 use rows::fields::read_entry;
 use rows::fields::set_read_entry;
-use rules::Version;
+use rules::Answer;
+use rules::cause::SUM;
+use rules::store::FIRST_CHARGE;
 use rules::table::NO_ENTRY;
+use rules::table::STORE;
 
-// Back comes the nearest version. A time that is there stays.
-pub fn read(table: &mut [u64], n: u64, k: u64) -> Version
+// The account enters the read set. A time that is there stays.
+fn enter(table: &mut [u64], n: u64, k: u64)
     requires { ⌜ Readable (now table) n k ⌝ }
-    ensures found { λ r. ⌜ r ≡ version (now (table .entry)) n k ⌝ }
-    ensures leaves { λ r. ⌜ now (table .exit) ≡ readTable (now (table .entry)) n k ⌝ }
+    ensures { λ r. ⌜ now (table .exit) ≡ readTable (now (table .entry)) n k ⌝ }
 {
-    let found = nearest(table, n, k);
     if read_entry(table, n, k) == NO_ENTRY {
         let time = counter(table);
         set_read_entry(table, n, k, time + 1);
     }
-    found
+}
+
+// Refused where the action sees a sum that is no amount.
+pub fn read(table: &mut [u64], base: &[u8], n: u64, k: u64) -> Answer
+    requires { ⌜ Readable (now table) n k ⌝ }
+    requires { ⌜ IsBase (now base) ⌝ }
+    ensures says { λ r. ⌜ r ≡ readSays (now (table .entry)) (now (base .entry)) n k ⌝ }
+    ensures leaves { λ r. ⌜ now (table .exit) ≡ readLeaves (now (table .entry)) (now (base .entry)) n k ⌝ }
+{
+    if k < FIRST_CHARGE {
+        let found = nearest(table, n, k);
+        enter(table, n, k);
+        return Answer::Read(found.holder, found.moves);
+    }
+    let seen = seen_by(table, base, n, k);
+    if !seen.fits {
+        return Answer::Refused(SUM);
+    }
+    enter(table, n, k);
+    Answer::ReadSum(STORE, seen.moves, seen.word)
 }

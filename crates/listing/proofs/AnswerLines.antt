@@ -8,18 +8,18 @@ use lib.Dec.{lit<}
 use lib.ListN.{length, drop, getD, List·getD-append}
 use lib.Seq.{getD-drop, drop-drop, drop-at}
 use Rattle.rules.specs.declared.Answer.{Answer}
-use Rattle.rules.specs.declared.Answer.the-variants.{Started, Read, Written, Committed, Failed, Aborted, Refused}
+use Rattle.rules.specs.declared.Answer.the-variants.{Started, Read, ReadSum, Written, Added, Committed, Failed, Aborted, Refused}
 use Rattle.rules.specs.Answer.{said}
 use Rattle.rules.specs.Encoding.{answerLength, wordsOf, wordsOfAll}
 use Rattle.rules.proofs.Laws.AnswerWords.{words-length}
 use Rattle.listing.specs.Listing.{saidText, answerLine, answerLines}
-use Rattle.listing.specs.Buffer.{wordOf, numbersOf, textOf, lineOf, linesOf}
-use Rattle.listing.proofs.Pieces.{lineAt}
+use Rattle.listing.specs.Buffer.{wordOf, numbersOf, saidSum, textOf, lineOf, lineAt, linesOf}
 
--- the text that three words give is the answer's
+-- the text that four words give is the answer's
 pub text-of-words :
-    (a : Answer) → textOf (getD (wordsOf a) 0 0) (getD (wordsOf a) 1 0) (getD (wordsOf a) 2 0) ≡ saidText (said a)
-unfolding textOf wordOf numbersOf
+    (a : Answer)
+    → textOf (getD (wordsOf a) 0 0) (getD (wordsOf a) 1 0) (getD (wordsOf a) 2 0) (getD (wordsOf a) 3 0) ≡ saidText (said a)
+unfolding textOf wordOf numbersOf saidSum
 text-of-words (Refused c) = refl
 text-of-words (Started n) = refl
 text-of-words (Read holder moves) = refl
@@ -27,8 +27,10 @@ text-of-words Written = refl
 text-of-words (Committed t) = refl
 text-of-words (Failed t k) = refl
 text-of-words (Aborted n) = refl
+text-of-words Added = refl
+text-of-words (ReadSum holder moves x) = refl
 
--- an answer's words, where they are the ith three
+-- an answer's words, where they are the ith four
 module _ (words rest : List ℕ) (i : ℕ) (a : Answer) (here : drop (answerLength * i) words ≡ wordsOf a ++ rest) where
   word : (k : ℕ) → k < answerLength → getD words (answerLength * i + k) 0 ≡ getD (wordsOf a) k 0
   word k h =
@@ -38,7 +40,7 @@ module _ (words rest : List ℕ) (i : ℕ) (a : Answer) (here : drop (answerLeng
 
   line : (place : ℕ) → lineAt words place i ≡ answerLine place a
   unfolding lineOf
-  line place = rw (rw add-zero at (word 0 (lit< tt)), word 1 (lit< tt), word 2 (lit< tt), text-of-words a)
+  line place = rw (rw add-zero at (word 0 (lit< tt)), word 1 (lit< tt), word 2 (lit< tt), word 3 (lit< tt), text-of-words a)
 
   behind : drop (answerLength * suc i) words ≡ rest
   behind =

@@ -1,17 +1,19 @@
--- How long the lines of a listing can be: 9 letters, two numbers of 20 digits and a place of 4. So the lines of 1,000 answers
--- and the last line fit 65,536 bytes. Assumes nothing.
+-- How long the lines of a listing can be: 9 letters, two numbers and a sum of 20 bytes each and a place of 4. So the lines of
+-- 1,000 answers and the last line fit 81,920 bytes. Assumes nothing.
 use Prim.Native.Nat.{ℕ, zero, suc, _+_, _*_, _^_, _≤_, _<_}
 use native.Mathlib.Omega.{arith}
 use mathlib.Core.Path.{_≡_}
 use mathlib.Core.Bool.{Bool, cond}
+use mathlib.Core.Option.{Option}
 use mathlib.Core.List.{List, _∷_}
 use lib.Dec.{eqb, lit≤}
 use lib.ListN.{length, getD, length-append}
-use Rattle.rules.specs.Encoding.{mostEvents, answerLength, refusedKind, startedKind, readKind, writtenKind, committedKind, failedKind}
+use lib.IntN.{ℤ}
+use Rattle.rules.specs.Encoding.{mostEvents, answerLength, refusedKind, startedKind, readKind, writtenKind, committedKind, failedKind, abortedKind, addedKind, readSumKind}
 use Rattle.rules.proofs.Laws.Tests.{cond-holds}
-use Rattle.listing.specs.Listing.{spaced, endLine, refusedLine}
-use Rattle.listing.specs.Buffer.{wordOf, hasTwoNumbers, numbersOf, textOf, lineOf, linesOf, listingLength}
-use Rattle.listing.proofs.Decimals.{placeDigits, decimal-bound, place-bound}
+use Rattle.listing.specs.Listing.{spaced, spacedSum, endLine, refusedLine}
+use Rattle.listing.specs.Buffer.{wordOf, hasNoNumbers, hasTwoNumbers, numbersOf, saidSum, textOf, lineOf, linesOf, listingLength}
+use Rattle.listing.proofs.Decimals.{placeDigits, decimal-bound, place-bound, signed-bound}
 use Rattle.listing.proofs.Pieces.{line-length, end-length}
 
 -- what holds of both outcomes holds of the one that a test picks
@@ -33,7 +35,9 @@ word-bound kind =
     (either Short (eqb kind readKind) (lit≤ tt)
     (either Short (eqb kind writtenKind) (lit≤ tt)
     (either Short (eqb kind committedKind) (lit≤ tt)
-    (either Short (eqb kind failedKind) (lit≤ tt) (lit≤ tt))))))
+    (either Short (eqb kind failedKind) (lit≤ tt)
+    (either Short (eqb kind abortedKind) (lit≤ tt)
+    (either Short (eqb kind addedKind) (lit≤ tt) (lit≤ tt))))))))
 
 -- two numbers of 20 digits, each with a space before it
 abbrev numbersLength : ℕ
@@ -42,31 +46,44 @@ numbersLength = 42
 numbers-bound : (kind first second : ℕ) → length (spaced (numbersOf kind first second)) ≤ numbersLength
 unfolding numbersOf spaced
 numbers-bound kind first second =
-    either (λ (numbers : List ℕ). length (spaced numbers) ≤ numbersLength) (eqb kind writtenKind)
+    either (λ (numbers : List ℕ). length (spaced numbers) ≤ numbersLength) (hasNoNumbers kind)
     (lit≤ tt)
     (either (λ (numbers : List ℕ). length (spaced (first ∷ numbers)) ≤ numbersLength) (hasTwoNumbers kind)
     (simp length-append (omega (arith, decimal-bound first, decimal-bound second)))
     (simp length-append (omega (arith, decimal-bound first))))
 
--- the longest text of an answer: its word and two numbers
+-- a sum of 20 bytes with a space before it
+abbrev sumLength : ℕ
+sumLength = 21
+
+sum-bound : (kind third : ℕ) → length (spacedSum (saidSum kind third)) ≤ sumLength
+unfolding saidSum spacedSum
+sum-bound kind third =
+    either (λ (sum : Option ℤ). length (spacedSum sum) ≤ sumLength) (eqb kind readSumKind)
+    (omega (arith, signed-bound third))
+    (lit≤ tt)
+
+-- the longest text of an answer: its word, two numbers and a sum
 abbrev pub textLength : ℕ
-textLength = 51
+textLength = 72
 
-pub text-bound : (kind first second : ℕ) → length (textOf kind first second) ≤ textLength
+pub text-bound : (kind first second third : ℕ) → length (textOf kind first second third) ≤ textLength
 unfolding textOf
-text-bound kind first second = simp length-append (omega (arith, word-bound kind, numbers-bound kind first second))
+text-bound kind first second third =
+    simp length-append (omega (arith, word-bound kind, numbers-bound kind first second, sum-bound kind third))
 
--- the longest line: a place of 4 digits, a word of 9 letters, two numbers of 20 digits, three spaces and a line feed
+-- the longest line: a place of 4 digits, a space, the text and a line feed
 abbrev lineLength : ℕ
-lineLength = 57
+lineLength = 78
 
-line-bound : (place kind first second : ℕ) → place < 10 ^ placeDigits → length (lineOf place kind first second) ≤ lineLength
-line-bound place kind first second h =
+line-bound :
+    (place kind first second third : ℕ) → place < 10 ^ placeDigits → length (lineOf place kind first second third) ≤ lineLength
+line-bound place kind first second third h =
     omega (
       arith,
-      line-length kind first second place,
+      line-length kind first second third place,
       place-bound place h,
-      text-bound kind first second,
+      text-bound kind first second third,
     )
 
 lines-bound : (words : List ℕ) (place i n : ℕ) → place + n ≤ mostEvents + 1 → length (linesOf words place i n) ≤ lineLength * n
@@ -76,17 +93,18 @@ lines-bound words place i (suc n) h =
     simp length-append
     (omega (
       arith,
-      line-bound place (getD words (answerLength * i) 0) (getD words (answerLength * i + 1) 0) (getD words (answerLength * i + 2) 0) (omega arith),
+      line-bound place (getD words (answerLength * i) 0) (getD words (answerLength * i + 1) 0)
+          (getD words (answerLength * i + 2) 0) (getD words (answerLength * i + 3) 0) (omega arith),
       lines-bound words (suc place) (suc i) n (omega arith),
     ))
 
 -- behind the lines of some of a day's answers there is room for one more
 pub line-fits :
-    (words : List ℕ) (i place kind first second : ℕ) {at room : ℕ} →
+    (words : List ℕ) (i place kind first second third : ℕ) {at room : ℕ} →
     at ≡ 0 + length (linesOf words 1 0 i) → i < mostEvents → place < 10 ^ placeDigits → room ≡ listingLength →
-    at + length (lineOf place kind first second) ≤ room
-line-fits words i place kind first second is more digits room =
-    omega (arith, lines-bound words 1 0 i (omega arith), line-bound place kind first second digits)
+    at + length (lineOf place kind first second third) ≤ room
+line-fits words i place kind first second third is more digits room =
+    omega (arith, lines-bound words 1 0 i (omega arith), line-bound place kind first second third digits)
 
 -- the longest last line: a word of 3 letters, two numbers of 20 digits, two spaces and a line feed
 abbrev pub endLength : ℕ
@@ -104,5 +122,5 @@ listing-fits words n started counter h =
     omega (arith, lines-bound words 1 0 n (omega arith), end-bound started counter)
 
 pub refused-fits : (fault : ℕ) → length (refusedLine fault) ≤ listingLength
-unfolding spaced
+unfolding spaced spacedSum
 refused-fits fault = simp length-append (omega (arith, decimal-bound fault))

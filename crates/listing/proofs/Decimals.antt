@@ -1,16 +1,21 @@
--- A number in decimal: the digits that `io::decimal` writes are the definition's, and how many there can be. Assumes nothing.
+-- A number in decimal: the digits that `io::decimal` writes are the definition's, and how many there can be; and the same of a
+-- sum with its sign. Assumes nothing.
 use Prim.Native.Nat.{ℕ, zero, suc, _-_, _/_, _%_, _^_, _≤_, _<_}
 use native.Mathlib.Nat.{one-le-pow, pow-suc, pow-le-pow-right}
 use native.Mathlib.Decide.{decLe}
 use native.Mathlib.Omega.{arith}
 use mathlib.Core.Path.{_≡_}
-use mathlib.Core.List.{List}
+use mathlib.Core.List.{List, _∷_}
 use lib.Dec.{ltb}
 use lib.ListN.{length, length-append}
+use lib.IntN.{ℤ, pos, negsuc}
 use borrow.Author.Tests.{ltb-false, lt-ltb, le-ltb}
+use Rattle.rules.specs.Amount.{amountOf}
 use Rattle.rules.proofs.Laws.Tests.{cond-holds}
+use Rattle.rules.proofs.Laws.Integers.{dn}
+use Rattle.rules.proofs.Laws.Amounts.{amount-of-any, amount-holds}
 use Rattle.io.specs.Digits.{digits, Fewest}
-use Rattle.listing.specs.Listing.{decimalWithin, decimal, mostDigits}
+use Rattle.listing.specs.Listing.{minus, decimalWithin, decimal, signed, mostDigits}
 
 -- the fewest digits that hold a number are the definition's
 fewest-digits : (places r n : ℕ) → r ≤ places → Fewest 10 1 n r → digits 10 r n ≡ decimalWithin places n
@@ -83,3 +88,26 @@ placeDigits = 4
 
 pub place-bound : (n : ℕ) → n < 10 ^ placeDigits → length (decimal n) ≤ placeDigits
 place-bound n h = decimalWithin-below (placeDigits - 1) mostDigits n (omega arith)
+
+-- ---- sums
+
+-- a word below 2^63 is the number itself
+pub signed-low : (x : ℕ) → x < 2 ^ 63 → signed (amountOf x) ≡ decimal x
+unfolding signed amountOf
+signed-low x low = rw (lt-ltb x (2 ^ 63) low)
+
+-- any other is 2^64 less
+pub signed-high : (x : ℕ) → x < 2 ^ 64 → 2 ^ 63 ≤ x → signed (amountOf x) ≡ minus ∷ decimal (2 ^ 63 - (x - 2 ^ 63))
+unfolding signed amountOf
+signed-high x fits high =
+    let size : suc (2 ^ 64 - suc x) ≡ 2 ^ 63 - (x - 2 ^ 63) = omega arith in
+    rw (le-ltb x (2 ^ 63) high, size)
+
+-- a sign and 19 digits at most
+signed-length : (z : ℤ) → dn z ≤ 2 ^ 63 → length (signed z) ≤ mostDigits
+unfolding signed dn
+signed-length (pos n) h = decimal-bound n
+signed-length (negsuc n) h = omega (arith, decimalWithin-below 18 mostDigits (suc n) (omega arith))
+
+pub signed-bound : (x : ℕ) → length (signed (amountOf x)) ≤ mostDigits
+signed-bound x = signed-length (amountOf x) (amount-holds (amountOf x) .0 (amount-of-any x) .1)

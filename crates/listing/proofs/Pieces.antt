@@ -1,17 +1,18 @@
--- Texts of a listing in the pieces in which they are put: words, numbers with a space before them, single bytes, and line
--- after line. Assumes nothing.
-use Prim.Native.Nat.{ℕ, zero, suc, _+_, _*_, _≤_}
+-- Texts of a listing in the pieces in which they are put: words, numbers and sums with a space before them, single bytes, and
+-- line after line. Assumes nothing.
+use Prim.Native.Nat.{ℕ, zero, suc, _+_, _≤_}
 use native.Mathlib.Nat.{zero-add, add-zero}
 use native.Mathlib.Omega.{arith}
 use native.Mathlib.Numerals.{add-one, one-add}
 use mathlib.Core.Path.{_≡_, ap, _∙_}
 use mathlib.Core.Bool.{true, false}
 use mathlib.Core.List.{List, [], _∷_, _++_, append-nil, append-assoc}
-use lib.ListN.{length, getD, length-append}
+use lib.ListN.{length, length-append}
 use borrow.Author.Tests.{eq-eqb, ne-eqb}
-use Rattle.rules.specs.Encoding.{answerLength, writtenKind}
-use Rattle.listing.specs.Listing.{decimal, spaced, endLine, space, lineFeed, endWord}
-use Rattle.listing.specs.Buffer.{wordOf, hasTwoNumbers, numbersOf, textOf, lineOf, linesOf}
+use Rattle.rules.specs.Amount.{amountOf}
+use Rattle.rules.specs.Encoding.{readSumKind}
+use Rattle.listing.specs.Listing.{decimal, signed, spaced, spacedSum, endLine, space, lineFeed, endWord}
+use Rattle.listing.specs.Buffer.{wordOf, hasNoNumbers, hasTwoNumbers, numbersOf, saidSum, textOf, lineOf, lineAt, linesOf}
 
 pub spaced-one : (n : ℕ) → spaced (n ∷ []) ≡ space ∷ decimal n
 unfolding spaced
@@ -22,37 +23,54 @@ unfolding spaced
 spaced-two m n = rw append-nil
 
 module _ (kind first second : ℕ) where
-  -- written: the word alone
-  pub text-written : kind ≡ writtenKind → textOf kind first second ≡ wordOf kind
-  unfolding textOf numbersOf spaced
-  text-written e = rw (eq-eqb kind writtenKind e, append-nil)
+  -- written and added
+  pub no-numbers : hasNoNumbers kind ≡ true → spaced (numbersOf kind first second) ≡ []
+  unfolding numbersOf spaced
+  no-numbers none = rw none
 
-  -- read and failed: the word and both numbers
-  pub text-two :
-      (kind ≡ writtenKind → ⊥) → hasTwoNumbers kind ≡ true →
-      textOf kind first second ≡ wordOf kind ++ (space ∷ decimal first) ++ (space ∷ decimal second)
-  unfolding textOf numbersOf
-  text-two not-written two = rw (ne-eqb kind writtenKind not-written, two, spaced-two first second, append-assoc)
+  -- read and failed
+  pub two-numbers :
+      hasNoNumbers kind ≡ false → hasTwoNumbers kind ≡ true →
+      spaced (numbersOf kind first second) ≡ (space ∷ decimal first) ++ (space ∷ decimal second)
+  unfolding numbersOf
+  two-numbers some two = rw (some, two, spaced-two first second)
 
-  -- any other answer: the word and the first number
-  pub text-one :
-      (kind ≡ writtenKind → ⊥) → hasTwoNumbers kind ≡ false → textOf kind first second ≡ wordOf kind ++ (space ∷ decimal first)
-  unfolding textOf numbersOf
-  text-one not-written one = rw (ne-eqb kind writtenKind not-written, one, spaced-one first)
+  -- any other answer
+  pub one-number :
+      hasNoNumbers kind ≡ false → hasTwoNumbers kind ≡ false → spaced (numbersOf kind first second) ≡ space ∷ decimal first
+  unfolding numbersOf
+  one-number some one = rw (some, one, spaced-one first)
 
-  -- there is room for the word, and unless the answer is written for the first number
-  pub word-fits : length (wordOf kind) ≤ length (textOf kind first second)
-  unfolding textOf
-  word-fits = simp length-append (omega arith)
+  -- unless there are no numbers there is room for the first
+  pub first-fits : hasNoNumbers kind ≡ false → length (space ∷ decimal first) ≤ length (spaced (numbersOf kind first second))
+  unfolding numbersOf spaced
+  first-fits some = rw some (simp length-append (omega arith))
 
-  pub first-fits : (kind ≡ writtenKind → ⊥) → length (wordOf kind) + length (space ∷ decimal first) ≤ length (textOf kind first second)
-  unfolding textOf numbersOf spaced
-  first-fits not-written = rw (ne-eqb kind writtenKind not-written) (simp length-append (omega arith))
+  module _ (third : ℕ) where
+    -- a read of a charge account: the sum stands behind the numbers
+    pub text-sum :
+        kind ≡ readSumKind →
+        textOf kind first second third ≡ wordOf kind ++ spaced (numbersOf kind first second) ++ (space ∷ signed (amountOf third))
+    unfolding textOf saidSum spacedSum
+    text-sum is = rw (eq-eqb kind readSumKind is)
 
-  pub line-length :
-      (place : ℕ) → length (lineOf place kind first second) ≡ length (decimal place) + (length (textOf kind first second) + 2)
-  unfolding lineOf
-  line-length place = simp length-append (omega arith)
+    -- any other answer: the word and the numbers
+    pub text-plain :
+        (kind ≡ readSumKind → ⊥) → textOf kind first second third ≡ wordOf kind ++ spaced (numbersOf kind first second)
+    unfolding textOf saidSum spacedSum
+    text-plain other = rw (ne-eqb kind readSumKind other, append-nil)
+
+    -- there is room for the word and for the numbers
+    pub numbers-fit :
+        length (wordOf kind) + length (spaced (numbersOf kind first second)) ≤ length (textOf kind first second third)
+    unfolding textOf
+    numbers-fit = simp length-append (omega arith)
+
+    pub line-length :
+        (place : ℕ)
+        → length (lineOf place kind first second third) ≡ length (decimal place) + (length (textOf kind first second third) + 2)
+    unfolding lineOf
+    line-length place = simp length-append (omega arith)
 
 pub end-length :
     (started counter : ℕ)
@@ -64,10 +82,6 @@ end-length started counter =
       ap length (spaced-two started counter),
       length-append (space ∷ decimal started) (space ∷ decimal counter),
     )
-
--- the line of the ith answer
-abbrev pub lineAt : List ℕ → ℕ → ℕ → List ℕ
-lineAt words place i = lineOf place (getD words (answerLength * i) 0) (getD words (answerLength * i + 1) 0) (getD words (answerLength * i + 2) 0)
 
 -- one more line stands behind the others
 next-line :

@@ -1,6 +1,6 @@
 -- Texts put into a buffer: the buffer keeps its length, and a text put right behind another is both put as one. Assumes
 -- nothing.
-use Prim.Native.Nat.{ℕ, _+_, _-_, _≤_, _<_}
+use Prim.Native.Nat.{ℕ, _+_, _≤_, _<_}
 use native.Mathlib.Nat.{add-zero, add-assoc}
 use native.Mathlib.Decide.{decLe}
 use native.Mathlib.Omega.{arith}

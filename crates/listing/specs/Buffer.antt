@@ -2,18 +2,21 @@
 use Prim.Native.Nat.{ℕ, zero, suc, _+_, _*_, _≤_}
 use mathlib.Core.Path.{_≡_}
 use mathlib.Core.Bool.{Bool, cond, _||_}
+use mathlib.Core.Option.{Option, none, some}
 use mathlib.Core.List.{List, [], _∷_, _++_}
 use lib.Dec.{eqb}
 use lib.ListN.{length, take, drop, getD}
-use Rattle.rules.specs.declared.Answer.the-variants.{Started, Read, Written, Committed, Failed, Aborted, Refused}
+use lib.IntN.{ℤ}
+use Rattle.rules.specs.declared.Answer.the-variants.{Started, Read, ReadSum, Written, Added, Committed, Failed, Aborted, Refused}
+use Rattle.rules.specs.Amount.{amountOf}
 use Rattle.rules.specs.Table.{started, counter}
 use Rattle.rules.specs.Answer.{said}
-use Rattle.rules.specs.Encoding.{mostEvents, answerLength, refusedKind, startedKind, readKind, writtenKind, committedKind, failedKind}
-use Rattle.listing.specs.Listing.{space, lineFeed, decimal, spaced, endLine}
+use Rattle.rules.specs.Encoding.{mostEvents, answerLength, refusedKind, startedKind, readKind, writtenKind, committedKind, failedKind, abortedKind, addedKind, readSumKind}
+use Rattle.listing.specs.Listing.{space, lineFeed, decimal, spaced, spacedSum, endLine}
 
 -- RULES 11.4: the bytes of the buffer
 abbrev pub listingLength : ℕ
-listingLength = 65536
+listingLength = 81920
 
 abbrev pub IsListingBuffer : List ℕ → Type 0
 IsListingBuffer buffer = length buffer ≡ listingLength
@@ -35,28 +38,42 @@ wordOf kind =
     (cond (eqb kind writtenKind) (said Written .word)
     (cond (eqb kind committedKind) (said (Committed 0) .word)
     (cond (eqb kind failedKind) (said (Failed 0 0) .word)
-    (said (Aborted 0) .word))))))
+    (cond (eqb kind abortedKind) (said (Aborted 0) .word)
+    (cond (eqb kind addedKind) (said Added .word)
+    (said (ReadSum 0 0 0) .word))))))))
 
--- RULES 5: read and failed have two numbers
+-- RULES 5: written and added have no numbers
+abbrev pub hasNoNumbers : ℕ → Bool
+hasNoNumbers kind = eqb kind writtenKind || eqb kind addedKind
+
+-- RULES 5: read, of either kind, and failed have two numbers
 abbrev pub hasTwoNumbers : ℕ → Bool
-hasTwoNumbers kind = eqb kind readKind || eqb kind failedKind
+hasTwoNumbers kind = eqb kind readKind || eqb kind failedKind || eqb kind readSumKind
 
--- written has none, every other answer one
+-- every other answer has one
 unfoldable pub numbersOf : ℕ → ℕ → ℕ → List ℕ
-numbersOf kind first second = cond (eqb kind writtenKind) [] (first ∷ cond (hasTwoNumbers kind) (second ∷ []) [])
+numbersOf kind first second = cond (hasNoNumbers kind) [] (first ∷ cond (hasTwoNumbers kind) (second ∷ []) [])
 
-unfoldable pub textOf : ℕ → ℕ → ℕ → List ℕ
-textOf kind first second = wordOf kind ++ spaced (numbersOf kind first second)
+-- RULES 5: a read of a charge account has a sum, and its third word is the sum's
+unfoldable pub saidSum : ℕ → ℕ → Option ℤ
+saidSum kind third = cond (eqb kind readSumKind) (some (amountOf third)) none
 
-unfoldable pub lineOf : ℕ → ℕ → ℕ → ℕ → List ℕ
-lineOf place kind first second = decimal place ++ (space ∷ textOf kind first second) ++ (lineFeed ∷ [])
+unfoldable pub textOf : ℕ → ℕ → ℕ → ℕ → List ℕ
+textOf kind first second third = wordOf kind ++ spaced (numbersOf kind first second) ++ spacedSum (saidSum kind third)
+
+unfoldable pub lineOf : ℕ → ℕ → ℕ → ℕ → ℕ → List ℕ
+lineOf place kind first second third = decimal place ++ (space ∷ textOf kind first second third) ++ (lineFeed ∷ [])
+
+-- the line of the ith answer, with this place in front
+abbrev pub lineAt : List ℕ → ℕ → ℕ → List ℕ
+lineAt words place i =
+    lineOf place (getD words (answerLength * i) 0) (getD words (answerLength * i + 1) 0)
+    (getD words (answerLength * i + 2) 0) (getD words (answerLength * i + 3) 0)
 
 -- n lines from a place on, of the answers from the ith on
 unfoldable pub linesOf : List ℕ → ℕ → ℕ → ℕ → List ℕ
 linesOf words place i zero = []
-linesOf words place i (suc n) =
-    lineOf place (getD words (answerLength * i) 0) (getD words (answerLength * i + 1) 0) (getD words (answerLength * i + 2) 0)
-    ++ linesOf words (suc place) (suc i) n
+linesOf words place i (suc n) = lineAt words place i ++ linesOf words (suc place) (suc i) n
 
 -- the listing of a day that is run: a line for each of its answers, and the line of its table's two totals
 unfoldable pub listingOf : List ℕ → ℕ → List ℕ → List ℕ

@@ -1,8 +1,10 @@
 -- RULES 10: the lines of a listing, as ASCII. Assumes nothing.
 use Prim.Native.Nat.{ℕ, zero, suc, _+_, _/_, _%_}
 use mathlib.Core.Bool.{cond}
+use mathlib.Core.Option.{Option, none, some}
 use mathlib.Core.List.{List, [], _∷_, _++_}
 use lib.Dec.{ltb}
+use lib.IntN.{ℤ, pos, negsuc}
 use Rattle.rules.specs.declared.Answer.{Answer}
 use Rattle.rules.specs.declared.Answer.the-variants.{Refused}
 use Rattle.rules.specs.Answer.{Said, said}
@@ -15,6 +17,10 @@ lineFeed = 10
 
 abbrev pub zeroDigit : ℕ
 zeroDigit = 48
+
+-- `-`
+abbrev pub minus : ℕ
+minus = 45
 
 -- the letters of `end`
 abbrev pub endWord : List ℕ
@@ -39,9 +45,19 @@ unfoldable pub spaced : List ℕ → List ℕ
 spaced [] = []
 spaced (n ∷ ns) = (space ∷ decimal n) ++ spaced ns
 
--- an answer's word and numbers
+-- RULES 10.1: an integer in decimal, a negative one with `-` in front (negsuc n is n + 1 below 0)
+unfoldable pub signed : ℤ → List ℕ
+signed (pos n) = decimal n
+signed (negsuc n) = minus ∷ decimal (suc n)
+
+-- a sum with a space before it, nothing where there is none
+unfoldable pub spacedSum : Option ℤ → List ℕ
+spacedSum none = []
+spacedSum (some z) = space ∷ signed z
+
+-- an answer's word, its numbers and its sum
 abbrev pub saidText : Said → List ℕ
-saidText s = s .word ++ spaced (s .numbers)
+saidText s = s .word ++ spaced (s .numbers) ++ spacedSum (s .sum)
 
 -- RULES 10.2: the line of an event
 abbrev pub answerLine : ℕ → Answer → List ℕ

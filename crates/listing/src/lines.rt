@@ -2,10 +2,11 @@
 ghost use mathlib.Core.Path.{_≡_};
 ghost use Prim.Native.Nat.{_+_, _≤_};
 ghost use lib.ListN.{length};
-ghost use Rattle.listing.specs.Listing.{endLine, refusedLine};
-ghost use Rattle.listing.specs.Buffer.{IsListingBuffer, HasAnswers, putAt, wordOf, hasTwoNumbers, textOf, lineOf, linesOf, listingOf};
+ghost use Rattle.listing.specs.Listing.{spaced, endLine, refusedLine};
+ghost use Rattle.listing.specs.Buffer.{IsListingBuffer, HasAnswers, putAt, wordOf, hasNoNumbers, hasTwoNumbers, numbersOf, textOf, lineOf, linesOf, listingOf};
 use crate::text::put_byte;
 use crate::text::put_number;
+use crate::text::put_signed;
 use crate::text::put_spaced;
 use crate::text::put_text;
 use rules::kind;
@@ -23,8 +24,19 @@ fn put_word(out: &mut [u8], at: usize, kind: u64) -> usize
         kind::WRITTEN => put_text(out, at, b"written"),
         kind::COMMITTED => put_text(out, at, b"committed"),
         kind::FAILED => put_text(out, at, b"failed"),
-        _ => put_text(out, at, b"aborted"),
+        kind::ABORTED => put_text(out, at, b"aborted"),
+        kind::ADDED => put_text(out, at, b"added"),
+        _ => put_text(out, at, b"read"),
     }
+}
+
+fn has_no_numbers(kind: u64) -> bool
+    ensures { λ r. ⌜ r ≡ hasNoNumbers kind ⌝ }
+{
+    if kind == kind::WRITTEN {
+        return true;
+    }
+    kind == kind::ADDED
 }
 
 fn has_two_numbers(kind: u64) -> bool
@@ -33,33 +45,57 @@ fn has_two_numbers(kind: u64) -> bool
     if kind == kind::READ {
         return true;
     }
-    kind == kind::FAILED
+    if kind == kind::FAILED {
+        return true;
+    }
+    kind == kind::READ_SUM
 }
 
-fn put_answer(out: &mut [u8], at: usize, kind: u64, first: u64, second: u64) -> usize
-    requires { ⌜ at + length (textOf kind first second) ≤ length (now out) ⌝ }
-    ensures next { λ r. ⌜ r ≡ at + length (textOf kind first second) ⌝ }
-    ensures leaves { λ r. ⌜ now (out .exit) ≡ putAt (now (out .entry)) at (textOf kind first second) ⌝ }
+fn put_numbers(out: &mut [u8], at: usize, kind: u64, first: u64, second: u64) -> usize
+    requires { ⌜ at + length (spaced (numbersOf kind first second)) ≤ length (now out) ⌝ }
+    ensures next { λ r. ⌜ r ≡ at + length (spaced (numbersOf kind first second)) ⌝ }
+    ensures leaves { λ r. ⌜ now (out .exit) ≡ putAt (now (out .entry)) at (spaced (numbersOf kind first second)) ⌝ }
 {
-    let after = put_word(out, at, kind);
-    if kind == kind::WRITTEN {
-        return after;
+    if has_no_numbers(kind) {
+        return at;
     }
-    let one = put_spaced(out, after, first);
+    let one = put_spaced(out, at, first);
     if has_two_numbers(kind) {
         return put_spaced(out, one, second);
     }
     one
 }
 
-fn put_line(out: &mut [u8], at: usize, place: u64, kind: u64, first: u64, second: u64) -> usize
-    requires { ⌜ at + length (lineOf place kind first second) ≤ length (now out) ⌝ }
-    ensures next { λ r. ⌜ r ≡ at + length (lineOf place kind first second) ⌝ }
-    ensures leaves { λ r. ⌜ now (out .exit) ≡ putAt (now (out .entry)) at (lineOf place kind first second) ⌝ }
+fn put_answer(out: &mut [u8], at: usize, kind: u64, first: u64, second: u64, third: u64) -> usize
+    requires { ⌜ at + length (textOf kind first second third) ≤ length (now out) ⌝ }
+    ensures next { λ r. ⌜ r ≡ at + length (textOf kind first second third) ⌝ }
+    ensures leaves { λ r. ⌜ now (out .exit) ≡ putAt (now (out .entry)) at (textOf kind first second third) ⌝ }
+{
+    let worded = put_word(out, at, kind);
+    let numbered = put_numbers(out, worded, kind, first, second);
+    if kind == kind::READ_SUM {
+        let spaced = put_byte(out, numbered, b' ');
+        return put_signed(out, spaced, third);
+    }
+    numbered
+}
+
+fn put_line(
+    out: &mut [u8],
+    at: usize,
+    place: u64,
+    kind: u64,
+    first: u64,
+    second: u64,
+    third: u64,
+) -> usize
+    requires { ⌜ at + length (lineOf place kind first second third) ≤ length (now out) ⌝ }
+    ensures next { λ r. ⌜ r ≡ at + length (lineOf place kind first second third) ⌝ }
+    ensures leaves { λ r. ⌜ now (out .exit) ≡ putAt (now (out .entry)) at (lineOf place kind first second third) ⌝ }
 {
     let numbered = put_number(out, at, place);
     let spaced = put_byte(out, numbered, b' ');
-    let answered = put_answer(out, spaced, kind, first, second);
+    let answered = put_answer(out, spaced, kind, first, second, third);
     put_byte(out, answered, b'\n')
 }
 
@@ -79,6 +115,7 @@ fn put_lines(out: &mut [u8], answers: &[u64], count: usize) -> usize
             answers[ANSWER_LENGTH * i],
             answers[ANSWER_LENGTH * i + 1],
             answers[ANSWER_LENGTH * i + 2],
+            answers[ANSWER_LENGTH * i + 3],
         );
     }
     at
@@ -114,6 +151,6 @@ pub fn put_refused(out: &mut [u8], fault: u64) -> usize
     ensures next { λ r. ⌜ r ≡ length (refusedLine fault) ⌝ }
     ensures leaves { λ r. ⌜ now (out .exit) ≡ putAt (now (out .entry)) 0 (refusedLine fault) ⌝ }
 {
-    let said = put_answer(out, 0, kind::REFUSED, fault, 0);
+    let said = put_answer(out, 0, kind::REFUSED, fault, 0, 0);
     put_byte(out, said, b'\n')
 }

@@ -3,8 +3,10 @@ ghost use mathlib.Core.Path.{_≡_};
 ghost use mathlib.Core.List.{[], _∷_};
 ghost use Prim.Native.Nat.{_+_, _≤_, _<_};
 ghost use lib.ListN.{length};
-ghost use Rattle.listing.specs.Listing.{space, decimal};
+ghost use Rattle.rules.specs.Amount.{amountOf};
+ghost use Rattle.listing.specs.Listing.{space, decimal, signed};
 ghost use Rattle.listing.specs.Buffer.{putAt};
+use rules::amount::SIGN;
 
 // The digits of the largest number.
 const DIGITS: usize = 20;
@@ -36,6 +38,19 @@ pub(crate) fn put_number(out: &mut [u8], at: usize, n: u64) -> usize
     let mut digits = [0u8; DIGITS];
     let k = io::decimal(n, &mut digits);
     put_text(out, at, &digits[..k])
+}
+
+// The number that a word is in two's complement. From SIGN on it is 2^64 less than the word.
+pub(crate) fn put_signed(out: &mut [u8], at: usize, word: u64) -> usize
+    requires { ⌜ at + length (signed (amountOf word)) ≤ length (now out) ⌝ }
+    ensures next { λ r. ⌜ r ≡ at + length (signed (amountOf word)) ⌝ }
+    ensures leaves { λ r. ⌜ now (out .exit) ≡ putAt (now (out .entry)) at (signed (amountOf word)) ⌝ }
+{
+    if word < SIGN {
+        return put_number(out, at, word);
+    }
+    let next = put_byte(out, at, b'-');
+    put_number(out, next, SIGN - (word - SIGN))
 }
 
 // A space and a number.

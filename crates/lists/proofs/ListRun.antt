@@ -26,12 +26,12 @@ use Rattle.causes.proofs.Grouped.{Accepted, stores-refused, stores-passed}
 
 -- ---- one answer's words in the buffer
 
-module _ (buffer words : List ℕ) (at : ℕ) (three : length words ≡ answerLength) (room : at + answerLength ≤ length buffer) where
+module _ (buffer words : List ℕ) (at : ℕ) (four : length words ≡ answerLength) (room : at + answerLength ≤ length buffer) where
   withWords-length : length (withWords buffer at words) ≡ length buffer
   withWords-length = simp (length-append, length-take, length-drop) (omega arith)
 
   front-length : length (take at buffer ++ words) ≡ at + answerLength
-  front-length = rw (length-append, length-take-le at buffer (omega arith), three)
+  front-length = rw (length-append, length-take-le at buffer (omega arith), four)
 
   -- the words, then more of them and what stands behind them
   withWords-more :
@@ -45,7 +45,7 @@ module _ (buffer words : List ℕ) (at : ℕ) (three : length words ≡ answerLe
         take-at (take at buffer ++ words) (drop (at + answerLength) buffer) (at + answerLength) front-length,
         drop-at (take at buffer ++ words) (drop (at + answerLength) buffer) (at + answerLength) front-length,
         length-append words more,
-        three,
+        four,
         drop-drop (answerLength + length more) at buffer,
         drop-drop (length more) (at + answerLength) buffer,
         same,
@@ -100,14 +100,14 @@ module _ (s : Ledger) (bytes buffer : List ℕ) (n : ℕ) where
         let at = answerLength * i in
         let next : answerLength * (i + 1) ≡ at + answerLength = omega arith in
         let here : at + answerLength ≤ length answers = omega (arith, d .long) in
-        let three = words-length (step now e .answer) in
+        let four = words-length (step now e .answer) in
         rw is
         (record {
           known = omega arith;
           accepted = step-keeps-accepted now e (d .accepted);
-          long = withWords-length answers (wordsOf (step now e .answer)) at three here ∙ d .long;
+          long = withWords-length answers (wordsOf (step now e .answer)) at four here ∙ d .long;
           leaves = d .leaves ∙ rw (events-next i below) refl;
-          words = d .words ∙ rw (events-next i below, next) (withWords-more answers (wordsOf (step now e .answer)) at three here _);
+          words = d .words ∙ rw (events-next i below, next) (withWords-more answers (wordsOf (step now e .answer)) at four here _);
         })
 
     pub all-done : n ≤ i → (run s (eventsFrom bytes 0 n) .after ≡ now) × (answered s (eventsFrom bytes 0 n) buffer ≡ answers)

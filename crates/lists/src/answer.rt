@@ -4,17 +4,19 @@ ghost use Rattle.rules.specs.Encoding.{wordsOf};
 use rules::Answer;
 use rules::kind;
 
-// The kind, and the answer's numbers, 0 where it has fewer than two.
+// The kind, and the answer's numbers, 0 where it has fewer than three.
 pub fn words(a: Answer) -> [u64; kind::ANSWER_LENGTH]
     ensures { λ r. ⌜ r ≡ wordsOf a ⌝ }
 {
     match a {
-        Answer::Refused(c) => [kind::REFUSED, c, 0],
-        Answer::Started(n) => [kind::STARTED, n, 0],
-        Answer::Read(holder, moves) => [kind::READ, holder, moves],
-        Answer::Written => [kind::WRITTEN, 0, 0],
-        Answer::Committed(t) => [kind::COMMITTED, t, 0],
-        Answer::Failed(t, k) => [kind::FAILED, t, k],
-        Answer::Aborted(n) => [kind::ABORTED, n, 0],
+        Answer::Refused(c) => [kind::REFUSED, c, 0, 0],
+        Answer::Started(n) => [kind::STARTED, n, 0, 0],
+        Answer::Read(holder, moves) => [kind::READ, holder, moves, 0],
+        Answer::Written => [kind::WRITTEN, 0, 0, 0],
+        Answer::Committed(t) => [kind::COMMITTED, t, 0, 0],
+        Answer::Failed(t, k) => [kind::FAILED, t, k, 0],
+        Answer::Aborted(n) => [kind::ABORTED, n, 0, 0],
+        Answer::Added => [kind::ADDED, 0, 0, 0],
+        Answer::ReadSum(holder, moves, sum) => [kind::READ_SUM, holder, moves, sum],
     }
 }

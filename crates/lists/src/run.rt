@@ -24,13 +24,14 @@ fn wide(x: u8) -> u64
     x as u64
 }
 
-fn store_words(buffer: &mut [u64], at: usize, kind: u64, first: u64, second: u64)
+fn store_words(buffer: &mut [u64], at: usize, kind: u64, first: u64, second: u64, third: u64)
     requires { ⌜ AnswerFits (now buffer) at ⌝ }
-    ensures { λ r. ⌜ now (buffer .exit) ≡ withWords (now (buffer .entry)) at (kind ∷ first ∷ second ∷ []) ⌝ }
+    ensures { λ r. ⌜ now (buffer .exit) ≡ withWords (now (buffer .entry)) at (kind ∷ first ∷ second ∷ third ∷ []) ⌝ }
 {
     buffer[at] = kind;
     buffer[at + 1] = first;
     buffer[at + 2] = second;
+    buffer[at + 3] = third;
 }
 
 fn store_answer(buffer: &mut [u64], at: usize, a: Answer)
@@ -38,7 +39,7 @@ fn store_answer(buffer: &mut [u64], at: usize, a: Answer)
     ensures { λ r. ⌜ now (buffer .exit) ≡ withWords (now (buffer .entry)) at (wordsOf a) ⌝ }
 {
     let w = words(a);
-    store_words(buffer, at, w[0], w[1], w[2]);
+    store_words(buffer, at, w[0], w[1], w[2], w[3]);
 }
 
 // The event that stands at a place of the list.

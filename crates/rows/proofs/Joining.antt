@@ -1,41 +1,77 @@
--- The union of two actions' sets, made in place: set by set, field by field, each from what the present table holds. What
+-- The sets and the pending sums of two actions joined in place: field by field, each from what the present table holds. What
 -- is read for a field is as it was at entry, since the fields before it are others. Assumes nothing.
 use Prim.Native.Nat.{ℕ, _≤_, _<_}
 use native.Mathlib.Omega.{arith}
-use mathlib.Core.Path.{_≡_, refl, ap₂, _∙_}
+use mathlib.Core.Path.{_≡_, refl, ap, ap₂, _∙_}
 use mathlib.Core.Logic.{_≢_}
 use mathlib.Core.List.{List}
-use Rattle.rules.specs.Card.{accountCount, accounts}
+use Rattle.rules.specs.Card.{accountCount, accounts, firstCharge, chargeCount, IsCharge, chargeAccounts}
 use Rattle.rules.specs.Range.{upFrom, fold}
-use Rattle.rules.specs.Table.{width, word, withFields, readField, writeField, withSets}
-use Rattle.rules.specs.Step.{joinedRead, joinTable}
-use Rattle.rows.specs.Join.{joinedWrite, joinField, joinFields}
+use Rattle.rules.specs.Table.{width, word, withWord, withFields, readField, writeField, writeEntry, pendingField, withPending, withSets}
+use Rattle.rules.specs.Step.{joinedRead, joinedPending, joinTable}
+use Rattle.rows.specs.Join.{joinedWrite, joinField, joinFields, SumFits, SumsFit}
 use Rattle.rules.proofs.Laws.Ranges.{Within, fold-agree}
 use Rattle.rules.proofs.Laws.Words.{word-other-row, word-other-field}
-use Rattle.rules.proofs.Laws.Fields.{withFields-off-field, withFields-agree}
+use Rattle.rules.proofs.Laws.Fields.{withFields-off-field, withFields-other-row, withFields-other-field, withFields-agree}
 
-module _ (w : List ℕ) (n p : ℕ) where
-  -- field f of n and of its parent p is the same in both tables
+module _ (w : List ℕ) (n p : ℕ) (apart : n ≢ p) where
+  -- row n is the same in both tables, and field f of row p
   abbrev Same : List ℕ → ℕ → Type 0
-  Same now f = (word now n f ≡ word w n f) × (word now p f ≡ word w p f)
+  Same now f = ((g : ℕ) → g < width → word now n g ≡ word w n g) × (word now p f ≡ word w p f)
 
-  pub joined-in-place :
-      (join : ℕ → ℕ → ℕ) (field : ℕ → ℕ) (a c : ℕ) → n ≢ p →
+  -- an entry of p's that is made from row n and from the entry that it replaces
+  made-in-place :
+      (entry : List ℕ → ℕ → ℕ) (field : ℕ → ℕ) (a c : ℕ) →
       ((k : ℕ) → Within a c k → field k < width) → ((k j : ℕ) → Within a c j → k < j → field j ≢ field k) →
-      joinFields w n p join field (upFrom a c) ≡ fold (λ k now. joinField now n p join (field k)) (upFrom a c) w
+      ((now : List ℕ) (k : ℕ) → Within a c k → Same now (field k) → entry w k ≡ entry now k) →
+      withFields w p field (upFrom a c) (entry w) ≡ fold (λ k now. withWord now p (field k) (entry now k)) (upFrom a c) w
   unfolding withFields
-  joined-in-place join field a c apart inside own =
+  made-in-place entry field a c inside own made =
       fold-agree (λ k now. (j : ℕ) → k ≤ j → Within a c j → Same now (field j)) _ _ a c
-      (λ k h now same. let e = same k (omega arith) h in rw (e .0, e .1))
+      (λ k h now same. rw (made now k h (same k (omega arith) h)))
       (λ k h now same j kj hj.
       let e = same j (omega arith) hj in (
-        word-other-row now p n (field k) (field j) _ (inside k h) (inside j hj) apart ∙ e .0,
+        λ g hg. word-other-row now p n (field k) g _ (inside k h) hg apart ∙ e .0 g hg,
         word-other-field now p (field k) (field j) _ (own k j hj (omega arith)) ∙ e .1,
       ))
-      w (λ j kj hj. (refl, refl))
+      w (λ j kj hj. (λ g hg. refl, refl))
 
+  pub joined-in-place :
+      (join : ℕ → ℕ → ℕ) (field : ℕ → ℕ) (a c : ℕ) →
+      ((k : ℕ) → Within a c k → field k < width) → ((k j : ℕ) → Within a c j → k < j → field j ≢ field k) →
+      joinFields w n p join field (upFrom a c) ≡ fold (λ k now. joinField now n p join (field k)) (upFrom a c) w
+  joined-in-place join field a c inside own =
+      made-in-place (λ now k. join (word now n (field k)) (word now p (field k))) field a c inside own
+      (λ now k h same. rw (same .0 (field k) (inside k h), same .1))
+
+  pub pendings-in-place :
+      withFields w p pendingField chargeAccounts (joinedPending w n p)
+      ≡ fold (λ k now. withPending now p k (joinedPending now n p k)) chargeAccounts w
+  unfolding chargeAccounts
+  pendings-in-place =
+      made-in-place (λ now. joinedPending now n p) pendingField firstCharge chargeCount
+      (λ k h. omega arith) (λ k j h kj z. omega arith)
+      (λ now k h same. rw (same .0 (writeField k) (omega arith), same .0 (pendingField k) (omega arith), same .1))
+
+  -- a sum that is still to be made fits as it did before
+  pub fits-later :
+      (k j v : ℕ) → IsCharge k → IsCharge j → k < j → SumFits w n p j → SumFits (withPending w p k v) n p j
+  fits-later k j v hk hj kj fits =
+      rw (
+        word-other-row w p n (pendingField k) (writeField j) v (omega arith) (omega arith) apart,
+        word-other-row w p n (pendingField k) (pendingField j) v (omega arith) (omega arith) apart,
+        word-other-field w p (pendingField k) (pendingField j) v (λ z. omega arith),
+      )
+      fits
+
+-- ---- one after the other
+
+module _ (w : List ℕ) (n p : ℕ) where
   abbrev readsJoined : List ℕ
   readsJoined = joinFields w n p joinedRead readField accounts
+
+  abbrev bothJoined : List ℕ
+  bothJoined = joinFields readsJoined n p joinedWrite writeField accounts
 
   -- the write entries are as they were
   writes-kept : (m k : ℕ) → Within 0 accountCount k → word readsJoined m (writeField k) ≡ word w m (writeField k)
@@ -43,6 +79,36 @@ module _ (w : List ℕ) (n p : ℕ) where
   writes-kept m k h =
       withFields-off-field w p readField 0 accountCount _ m (writeField k) (λ x r. omega arith) (omega arith) (λ x r z. omega arith)
 
-  pub joined-both : joinFields readsJoined n p joinedWrite writeField accounts ≡ joinTable w n p
-  unfolding joinTable withSets accounts
-  joined-both = withFields-agree _ p writeField 0 accountCount _ _ (λ k h. ap₂ joinedWrite (writes-kept n k h) (writes-kept p k h))
+  -- so are row n's entries and p's pending sums, which the third pass reads
+  row-kept : n ≢ p → (g : ℕ) → g < width → word bothJoined n g ≡ word w n g
+  unfolding accounts
+  row-kept apart g h =
+      withFields-other-row _ p writeField 0 accountCount _ n g (λ x r. omega arith) h apart
+      ∙ withFields-other-row w p readField 0 accountCount _ n g (λ x r. omega arith) h apart
+
+  pendings-kept : (k : ℕ) → IsCharge k → word bothJoined p (pendingField k) ≡ word w p (pendingField k)
+  unfolding accounts
+  pendings-kept k h =
+      withFields-other-field _ p writeField 0 accountCount _ (pendingField k) (λ x r z. omega arith)
+      ∙ withFields-other-field w p readField 0 accountCount _ (pendingField k) (λ x r z. omega arith)
+
+  both-joined :
+      bothJoined ≡ withFields readsJoined p writeField accounts (λ k. joinedWrite (writeEntry w n k) (writeEntry w p k))
+  unfolding accounts
+  both-joined = withFields-agree _ p writeField 0 accountCount _ _ (λ k h. ap₂ joinedWrite (writes-kept n k h) (writes-kept p k h))
+
+  module _ (apart : n ≢ p) where
+    pending-kept : (k : ℕ) → IsCharge k → joinedPending bothJoined n p k ≡ joinedPending w n p k
+    pending-kept k h =
+        rw (row-kept apart (writeField k) (omega arith), row-kept apart (pendingField k) (omega arith), pendings-kept k h)
+
+    pub fits-kept : SumsFit w n p → SumsFit bothJoined n p
+    fits-kept fits k h =
+        rw (row-kept apart (writeField k) (omega arith), row-kept apart (pendingField k) (omega arith), pendings-kept k h) (fits k h)
+
+    pub joined-all :
+        withFields bothJoined p pendingField chargeAccounts (joinedPending bothJoined n p) ≡ joinTable w n p
+    unfolding joinTable withSets chargeAccounts
+    joined-all =
+        withFields-agree _ p pendingField firstCharge chargeCount _ _ (λ k h. pending-kept k (omega arith))
+        ∙ ap (λ now. withFields now p pendingField (upFrom firstCharge chargeCount) (joinedPending w n p)) both-joined

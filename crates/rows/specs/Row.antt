@@ -1,9 +1,10 @@
 -- What the functions on rows ask of their callers. Assumes nothing.
-use Prim.Native.Nat.{ℕ, _+_, _≤_}
+use Prim.Native.Nat.{ℕ, _+_, _-_, _≤_}
 use mathlib.Core.Path.{_≡_}
 use mathlib.Core.Logic.{_≢_}
 use mathlib.Core.List.{List}
 use lib.ListN.{length}
+use Rattle.rules.specs.Range.{upFrom}
 use Rattle.rules.specs.Card.{accountCount}
 use Rattle.rules.specs.Table.{width, tableLength, mostActions, started}
 
@@ -21,6 +22,13 @@ pub record Scannable (w : List ℕ) : Type 0 where
 abbrev pub AreTwo : ℕ → ℕ → Type 0
 AreTwo n p = n ≢ p
 
--- a row has one field for each account, from `first` on
+-- a row has a field for each account: that of account k is field first + k
 abbrev pub HasAccountFields : ℕ → Type 0
 HasAccountFields first = first + accountCount ≤ width
+
+-- the accounts from one on
+abbrev pub IsFirstAccount : ℕ → Type 0
+IsFirstAccount from = from ≤ accountCount
+
+abbrev pub accountsFrom : ℕ → List ℕ
+accountsFrom from = upFrom from (accountCount - from)

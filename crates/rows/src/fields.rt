@@ -1,7 +1,7 @@
 // The fields of the head and of an action, by name.
 ghost use mathlib.Core.Path.{_≡_};
-ghost use Rattle.rules.specs.Card.{IsAccount};
-ghost use Rattle.rules.specs.Table.{started, withStarted, counter, withCounter, parentOf, withParent, stateOf, withState, endTime, withEndTime, readEntry, withRead, hasWritten, writeEntry, withWrite, isLive, isCommitted};
+ghost use Rattle.rules.specs.Card.{IsAccount, IsCharge};
+ghost use Rattle.rules.specs.Table.{started, withStarted, counter, withCounter, parentOf, withParent, stateOf, withState, endTime, withEndTime, readEntry, withRead, hasWritten, writeEntry, withWrite, pendingWord, withPending, isLive, isCommitted};
 ghost use Rattle.rows.specs.Row.{HasRow};
 use crate::words::get;
 use crate::words::put;
@@ -12,6 +12,7 @@ use rules::table::HEAD;
 use rules::table::LIVE;
 use rules::table::NO_ENTRY;
 use rules::table::PARENT_FIELD;
+use rules::table::PENDING_FIELDS;
 use rules::table::READ_FIELDS;
 use rules::table::STARTED_FIELD;
 use rules::table::STATE_FIELD;
@@ -140,4 +141,21 @@ pub fn has_written(table: &[u64], n: u64, k: u64) -> bool
     ensures { λ r. ⌜ r ≡ hasWritten (now (table .entry)) n k ⌝ }
 {
     write_entry(table, n, k) != NO_ENTRY
+}
+
+// The word of its pending sum.
+pub fn pending(table: &[u64], n: u64, k: u64) -> u64
+    requires { ⌜ HasRow (now table) n ⌝ }
+    requires { ⌜ IsCharge k ⌝ }
+    ensures { λ r. ⌜ r ≡ pendingWord (now (table .entry)) n k ⌝ }
+{
+    get(table, n, PENDING_FIELDS + k)
+}
+
+pub fn set_pending(table: &mut [u64], n: u64, k: u64, v: u64)
+    requires { ⌜ HasRow (now table) n ⌝ }
+    requires { ⌜ IsCharge k ⌝ }
+    ensures { λ r. ⌜ now (table .exit) ≡ withPending (now (table .entry)) n k v ⌝ }
+{
+    put(table, n, PENDING_FIELDS + k, v);
 }

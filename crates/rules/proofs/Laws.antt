@@ -17,3 +17,6 @@ pub mod Permitted
 pub mod Climbing
 pub mod Walking
 pub mod Versions
+pub mod Charges
+pub mod Integers
+pub mod Amounts

@@ -4,6 +4,7 @@ pub mod TableChanges
 pub mod Starting
 pub mod Reading
 pub mod Writing
+pub mod Adding
 pub mod Committing
 pub mod Judging
 pub mod Aborting

@@ -1,8 +1,10 @@
 -- Accounts, cards and the two stores: how large they are, where a card stands, a card taken from a store and put into it.
 -- Assumes nothing.
-use Prim.Native.Nat.{ℕ, _+_, _-_, _*_, _<_}
+use Prim.Native.Nat.{ℕ, _+_, _-_, _*_, _≤_, _<_}
 use mathlib.Core.Path.{_≡_}
+use mathlib.Core.Bool.{Bool}
 use mathlib.Core.List.{List, _++_}
+use lib.Dec.{leb}
 use lib.ListN.{length, take, drop}
 use Rattle.rules.specs.Range.{upFrom}
 
@@ -16,6 +18,27 @@ accounts = upFrom 0 accountCount
 abbrev pub IsAccount : ℕ → Type 0
 IsAccount k = k < accountCount
 
+-- RULES 1.9: the charge accounts, document 02's term, are those from here on
+abbrev pub firstCharge : ℕ
+firstCharge = 24
+
+abbrev pub chargeCount : ℕ
+chargeCount = 8
+
+-- of an account: it is a charge account
+abbrev pub isCharge : ℕ → Bool
+isCharge k = leb firstCharge k
+
+unfoldable pub chargeAccounts : List ℕ
+chargeAccounts = upFrom firstCharge chargeCount
+
+abbrev pub IsCharge : ℕ → Type 0
+IsCharge k = (firstCharge ≤ k) × (k < accountCount)
+
+-- of an account: it is none
+abbrev pub IsPlain : ℕ → Type 0
+IsPlain k = k < firstCharge
+
 -- RULES 1.1: the bytes of a card
 abbrev pub cardLength : ℕ
 cardLength = 32
@@ -26,6 +49,9 @@ IsCard card = length card ≡ cardLength
 -- RULES 1.2: the bytes of the base store, and the place of an account's card there
 abbrev pub baseLength : ℕ
 baseLength = 1024
+
+abbrev pub IsBase : List ℕ → Type 0
+IsBase base = length base ≡ baseLength
 
 abbrev pub basePlace : ℕ → ℕ
 basePlace k = cardLength * k

@@ -1,21 +1,27 @@
 -- RULES 8: why an event is refused. Assumes nothing.
 use Prim.Native.Nat.{ℕ}
-use mathlib.Core.Bool.{Bool, not, cond, _&&_, _||_}
+use mathlib.Core.Bool.{Bool, false, not, cond, _&&_, _||_}
 use mathlib.Core.List.{List, [], _∷_, _++_}
 use lib.Dec.{leb, ltb, eqb}
 use lib.ListN.{length}
-use Rattle.rules.specs.Card.{accountCount, cardLength, baseLength, shadowLength}
-use Rattle.rules.specs.Table.{mostActions, started, isLive, hasLiveChild}
+use lib.IntN.{ℤ, _+ℤ_}
+use Rattle.rules.specs.Card.{accountCount, isCharge, chargeAccounts, cardLength, baseLength, shadowLength}
+use Rattle.rules.specs.Amount.{isAmount, isAddable, amountIn, baseAmount}
+use Rattle.rules.specs.Range.{any}
+use Rattle.rules.specs.Table.{mostActions, started, parentOf, hasWritten, pendingSum, isLive, hasLiveChild}
 use Rattle.rules.specs.Sound.{sound}
-use Rattle.rules.specs.Event.{Event, startCode, abortCode, isStart, isRead, isWrite, isCommit}
+use Rattle.rules.specs.Event.{Event, startCode, addCode, isStart, isRead, isWrite, isCommit, isAdd}
+use Rattle.rules.specs.Nearest.{readSum}
+use Rattle.rules.specs.declared.Found.{Found}
+use Rattle.rules.specs.declared.Found.the-variants.{Nothing, At}
+use Rattle.rules.specs.Clash.{firstClash}
 
 -- a cause: its number, and whether it applies
 pub record Cause : Type 0 where
   pub number : ℕ
   pub applies : Bool
 
--- the number of the first cause that applies, 0 where none does; in a list by rising numbers it is the lowest
--- (proofs/Laws/Allowed.antt)
+-- the number of the first cause that applies, 0 where none does
 abbrev pub firstCause : List Cause → ℕ
 firstCause [] = 0
 firstCause (c ∷ cs) = cond (c .applies) (c .number) (firstCause cs)
@@ -35,7 +41,7 @@ abbrev pub codeCause : ℕ
 codeCause = 3
 
 abbrev pub isCodeUnknown : ℕ → Bool
-isCodeUnknown code = not (leb startCode code && leb code abortCode)
+isCodeUnknown code = not (leb startCode code && leb code addCode)
 
 abbrev pub numberCause : ℕ
 numberCause = 4
@@ -70,11 +76,65 @@ cardLengthCause = 8
 abbrev pub isCardLengthWrong : Bool → List ℕ → Bool
 isCardLengthWrong used card = used && not (eqb (length card) cardLength)
 
+abbrev pub kindCause : ℕ
+kindCause = 13
+
+-- an add to an account that is no charge account, or a write to one that is
+abbrev pub isKindWrong : Event → Bool
+isKindWrong e = isAdd e && not (isCharge (e .account)) || isWrite e && isCharge (e .account)
+
+abbrev pub amountCause : ℕ
+amountCause = 14
+
+abbrev pub isAmountTooLarge : Bool → List ℕ → Bool
+isAmountTooLarge used card = used && not (isAddable (amountIn card))
+
 abbrev pub childLiveCause : ℕ
 childLiveCause = 9
 
 abbrev pub isChildLive : List ℕ → Bool → ℕ → Bool
 isChildLive w used n = used && hasLiveChild w n
+
+abbrev pub sumCause : ℕ
+sumCause = 15
+
+-- ---- the sums of RULES 8.4, and where one is outside 64 signed bits
+
+-- the sum that n's commit makes for charge account k, at its parent or in the base store
+unfoldable pub commitSum : List ℕ → List ℕ → ℕ → ℕ → ℤ
+commitSum w base n k =
+    let p = parentOf w n in
+    cond (eqb p 0) (baseAmount base k) (pendingSum w p k) +ℤ pendingSum w n k
+
+-- one of those for which n has written the account is outside; a commit with a clash makes none
+unfoldable pub isCommitOutside : List ℕ → List ℕ → ℕ → Found → Bool
+isCommitOutside w base n Nothing = any (λ k. hasWritten w n k && not (isAmount (commitSum w base n k))) chargeAccounts
+isCommitOutside w base n (At t k) = false
+
+-- the sum that n's read of account k answers is outside; an account that is no charge account has none
+unfoldable pub isReadOutside : List ℕ → List ℕ → ℕ → ℕ → Bool
+isReadOutside w base n k = isCharge k && not (isAmount (readSum w base n k))
+
+-- the pending sum that n's add of this card's amount to charge account k leaves is outside
+abbrev pub isAddOutside : List ℕ → ℕ → ℕ → List ℕ → Bool
+isAddOutside w n k card = not (isAmount (pendingSum w n k +ℤ amountIn card))
+
+-- which sums an event makes: by its code, so that a clash is searched for at a commit alone
+pub data Sums : Type 0 where
+  inRead inAdd inCommit inNone : Sums
+
+abbrev pub sumsOf : Event → Sums
+sumsOf e = cond (isRead e) inRead (cond (isAdd e) inAdd (cond (isCommit e) inCommit inNone))
+
+-- one of them is outside
+unfoldable pub areOutside : List ℕ → List ℕ → Event → Sums → Bool
+areOutside w base e inRead = isReadOutside w base (e .number) (e .account)
+areOutside w base e inAdd = isAddOutside w (e .number) (e .account) (e .card)
+areOutside w base e inCommit = isCommitOutside w base (e .number) (firstClash w (e .number))
+areOutside w base e inNone = false
+
+abbrev pub isSumOutside : List ℕ → List ℕ → Event → Bool
+isSumOutside w base e = areOutside w base e (sumsOf e)
 
 -- ---- the lists
 
@@ -85,21 +145,27 @@ storeCauses w base shadow =
     ∷ record { number = unsoundCause; applies = not (sound w) }
     ∷ []
 
--- those of an event on a sound table over stores that fit
-unfoldable pub eventCauses : List ℕ → Event → List Cause
-eventCauses w e =
+-- those of an event on a sound table over stores that fit, but for the last: table and event alone decide them
+unfoldable pub earlyCauses : List ℕ → Event → List Cause
+earlyCauses w e =
     record { number = codeCause; applies = isCodeUnknown (e .code) }
     ∷ record { number = numberCause; applies = isNumberUnknown w (isStart e) (e .number) }
     ∷ record { number = notLiveCause; applies = isNotLive w (e .number) }
     ∷ record { number = tableFullCause; applies = isTableFull w (isStart e) }
-    ∷ record { number = accountCause; applies = isAccountUnknown (isRead e || isWrite e) (e .account) }
-    ∷ record { number = cardLengthCause; applies = isCardLengthWrong (isWrite e) (e .card) }
-    ∷ record { number = childLiveCause; applies = isChildLive w (isRead e || isWrite e || isCommit e) (e .number) }
+    ∷ record { number = accountCause; applies = isAccountUnknown (isRead e || isWrite e || isAdd e) (e .account) }
+    ∷ record { number = cardLengthCause; applies = isCardLengthWrong (isWrite e || isAdd e) (e .card) }
+    ∷ record { number = kindCause; applies = isKindWrong e }
+    ∷ record { number = amountCause; applies = isAmountTooLarge (isAdd e) (e .card) }
+    ∷ record { number = childLiveCause; applies = isChildLive w (isRead e || isWrite e || isCommit e || isAdd e) (e .number) }
     ∷ []
+
+-- the last
+unfoldable pub lateCauses : List ℕ → List ℕ → Event → List Cause
+lateCauses w base e = record { number = sumCause; applies = isSumOutside w base e } ∷ []
 
 -- all of them
 unfoldable pub causesOf : List ℕ → List ℕ → List ℕ → Event → List Cause
-causesOf w base shadow e = storeCauses w base shadow ++ eventCauses w e
+causesOf w base shadow e = storeCauses w base shadow ++ earlyCauses w e ++ lateCauses w base e
 
 -- the number of the cause that an event is refused with, 0 where it has none
 unfoldable pub causeOf : List ℕ → List ℕ → List ℕ → Event → ℕ

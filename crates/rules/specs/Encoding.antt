@@ -3,7 +3,7 @@ use Prim.Native.Nat.{ℕ, zero, suc, _+_, _*_, _/_}
 use mathlib.Core.List.{List, [], _∷_, _++_}
 use lib.ListN.{length, take, drop, getD}
 use Rattle.rules.specs.declared.Answer.{Answer}
-use Rattle.rules.specs.declared.Answer.the-variants.{Started, Read, Written, Committed, Failed, Aborted, Refused}
+use Rattle.rules.specs.declared.Answer.the-variants.{Started, Read, ReadSum, Written, Added, Committed, Failed, Aborted, Refused}
 use Rattle.rules.specs.Card.{cardLength}
 use Rattle.rules.specs.Event.{Event}
 
@@ -32,9 +32,9 @@ eventsFrom bytes i (suc n) = eventAt bytes (eventLength * i) ∷ eventsFrom byte
 unfoldable pub eventsIn : List ℕ → List Event
 eventsIn bytes = eventsFrom bytes 0 (length bytes / eventLength)
 
--- RULES 5: the words of an answer: its kind, then its numbers, 0 where there are fewer than two
+-- RULES 5: the words of an answer: its kind, then its numbers, 0 where there are fewer than three
 abbrev pub answerLength : ℕ
-answerLength = 3
+answerLength = 4
 
 abbrev pub refusedKind : ℕ
 refusedKind = 0
@@ -57,14 +57,22 @@ failedKind = 5
 abbrev pub abortedKind : ℕ
 abortedKind = 6
 
+abbrev pub addedKind : ℕ
+addedKind = 7
+
+abbrev pub readSumKind : ℕ
+readSumKind = 8
+
 abbrev pub wordsOf : Answer → List ℕ
-wordsOf (Refused c) = refusedKind ∷ c ∷ 0 ∷ []
-wordsOf (Started n) = startedKind ∷ n ∷ 0 ∷ []
-wordsOf (Read holder moves) = readKind ∷ holder ∷ moves ∷ []
-wordsOf Written = writtenKind ∷ 0 ∷ 0 ∷ []
-wordsOf (Committed t) = committedKind ∷ t ∷ 0 ∷ []
-wordsOf (Failed t k) = failedKind ∷ t ∷ k ∷ []
-wordsOf (Aborted n) = abortedKind ∷ n ∷ 0 ∷ []
+wordsOf (Refused c) = refusedKind ∷ c ∷ 0 ∷ 0 ∷ []
+wordsOf (Started n) = startedKind ∷ n ∷ 0 ∷ 0 ∷ []
+wordsOf (Read holder moves) = readKind ∷ holder ∷ moves ∷ 0 ∷ []
+wordsOf Written = writtenKind ∷ 0 ∷ 0 ∷ 0 ∷ []
+wordsOf (Committed t) = committedKind ∷ t ∷ 0 ∷ 0 ∷ []
+wordsOf (Failed t k) = failedKind ∷ t ∷ k ∷ 0 ∷ []
+wordsOf (Aborted n) = abortedKind ∷ n ∷ 0 ∷ 0 ∷ []
+wordsOf Added = addedKind ∷ 0 ∷ 0 ∷ 0 ∷ []
+wordsOf (ReadSum holder moves x) = readSumKind ∷ holder ∷ moves ∷ x ∷ []
 
 unfoldable pub wordsOfAll : List Answer → List ℕ
 wordsOfAll [] = []

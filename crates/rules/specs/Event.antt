@@ -30,6 +30,9 @@ commitCode = 4
 abbrev pub abortCode : ℕ
 abortCode = 5
 
+abbrev pub addCode : ℕ
+addCode = 6
+
 abbrev pub isStart : Event → Bool
 isStart e = eqb (e .code) startCode
 
@@ -41,6 +44,9 @@ isWrite e = eqb (e .code) writeCode
 
 abbrev pub isCommit : Event → Bool
 isCommit e = eqb (e .code) commitCode
+
+abbrev pub isAdd : Event → Bool
+isAdd e = eqb (e .code) addCode
 
 -- the events by name, with nothing in the parts that they have no use for
 abbrev pub startUnder : ℕ → Event
@@ -57,3 +63,6 @@ commitOf n = eventOf commitCode n 0 []
 
 abbrev pub abortOf : ℕ → Event
 abortOf n = eventOf abortCode n 0 []
+
+abbrev pub addBy : ℕ → ℕ → List ℕ → Event
+addBy n k c = eventOf addCode n k c

@@ -1,6 +1,7 @@
 -- The rules (docs/RULES.md) as definitions that compute, in the order in which one would explain them.
 pub mod Range
 pub mod Card
+pub mod Amount
 pub mod Table
 pub mod Ledger
 pub mod Walk
@@ -8,11 +9,11 @@ pub mod Sound
 pub mod Event
 pub mod Answer
 pub mod Encoding
-pub mod Cause
 pub mod Nearest
-pub mod Look
 pub mod Clash
 pub mod Search
+pub mod Cause
+pub mod Look
 pub mod Step
 pub mod Run
 pub mod Touch

@@ -7,4 +7,5 @@ pub mod Schedule
 pub mod Machine
 pub mod Reach
 pub mod Demand
+pub mod Conserved
 pub mod Starts

@@ -3,13 +3,13 @@
 use Prim.Native.Nat.{ℕ, _-_, _≤_, _<_}
 use mathlib.Core.Path.{_≡_}
 use mathlib.Core.Logic.{_⊎_}
-use mathlib.Core.Bool.{Bool, true, not, _&&_, _||_}
+use mathlib.Core.Bool.{Bool, true, false, not, _&&_, _||_}
 use mathlib.Core.List.{List}
 use lib.Dec.{leb, ltb, eqb}
 use lib.ListN.{length}
 use Rattle.rules.specs.Range.{upFrom, all, count}
-use Rattle.rules.specs.Card.{accountCount, accounts}
-use Rattle.rules.specs.Table.{tableLength, mostActions, live, committed, aborted, started, counter, parentOf, stateOf, endTime, hasRead, readTime, isLive, isCommitted, hasEnd, actions}
+use Rattle.rules.specs.Card.{accountCount, accounts, IsCharge, chargeAccounts}
+use Rattle.rules.specs.Table.{tableLength, mostActions, live, committed, aborted, started, counter, parentOf, stateOf, endTime, hasRead, readTime, hasWritten, pendingWord, isLive, isCommitted, hasEnd, actions}
 
 -- 7.4: the state's word is that of a state
 abbrev pub hasState : List ℕ → ℕ → Bool
@@ -39,6 +39,10 @@ sharesEndTime w n m = hasEnd w m && eqb (parentOf w m) (parentOf w n) && eqb (en
 unfoldable pub hasEndAlone : List ℕ → ℕ → Bool
 hasEndAlone w n = not (hasEnd w n) || all (λ m. not (sharesEndTime w n m)) (upFrom 1 (n - 1))
 
+-- 7.10: no sum is pending on a charge account that isn't in the write set
+unfoldable pub hasPendingWritten : List ℕ → ℕ → Bool
+hasPendingWritten w n = all (λ k. hasWritten w n k || eqb (pendingWord w n k) 0) chargeAccounts
+
 -- the clauses that speak of one action
 unfoldable pub isSoundAction : List ℕ → ℕ → Bool
 isSoundAction w n =
@@ -48,6 +52,7 @@ isSoundAction w n =
     && hasReadInTime w n
     && hasEndInTime w n
     && hasEndAlone w n
+    && hasPendingWritten w n
 
 -- 7.1 the length, 7.2 the last start, 7.3 the counter, and those clauses of each action
 unfoldable pub sound : List ℕ → Bool
@@ -75,3 +80,4 @@ pub record Sound (w : List ℕ) : Type 0 where
   pub alone :
       (n m : ℕ) → IsStarted w n → IsStarted w m → hasEnd w n ≡ true → hasEnd w m ≡ true →
       parentOf w m ≡ parentOf w n → endTime w m ≡ endTime w n → m ≡ n
+  pub pendings : (n k : ℕ) → IsStarted w n → IsCharge k → hasWritten w n k ≡ false → pendingWord w n k ≡ 0

@@ -3,16 +3,18 @@ use Prim.Native.Nat.{ℕ, _+_, min}
 use mathlib.Core.Bool.{Bool, cond, _&&_}
 use mathlib.Core.List.{List}
 use lib.Dec.{eqb}
+use lib.IntN.{ℤ, _+ℤ_}
 use Rattle.rules.specs.declared.Answer.{Answer}
-use Rattle.rules.specs.declared.Answer.the-variants.{Started, Read, Written, Committed, Failed, Aborted, Refused}
+use Rattle.rules.specs.declared.Answer.the-variants.{Started, Read, ReadSum, Written, Added, Committed, Failed, Aborted, Refused}
 use Rattle.rules.specs.Ledger.{Ledger, ledgerOf, withTable}
 use Rattle.rules.specs.Range.{count, fold}
-use Rattle.rules.specs.Card.{accounts, basePlace, shadowPlace, cardAt, withCard}
-use Rattle.rules.specs.Table.{live, committed, aborted, started, withStarted, counter, withCounter, parentOf, withParent, withState, withEndTime, readEntry, withRead, hasRead, writeEntry, withWrite, entered, hasWritten, hasWrites, withSets, isLive, actions}
+use Rattle.rules.specs.Card.{accounts, isCharge, basePlace, shadowPlace, cardAt, withCard}
+use Rattle.rules.specs.Amount.{amountWord, amountIn, withAmount, baseAmount}
+use Rattle.rules.specs.Table.{live, committed, aborted, started, withStarted, counter, withCounter, parentOf, withParent, withState, withEndTime, readEntry, withRead, hasRead, writeEntry, withWrite, entered, hasWritten, hasWrites, hasCard, pendingWord, withPending, pendingSum, withSets, isLive, actions}
 use Rattle.rules.specs.Walk.{isAtOrBelow}
-use Rattle.rules.specs.Event.{Event, isStart, isRead, isWrite, isCommit}
+use Rattle.rules.specs.Event.{Event, isStart, isRead, isWrite, isCommit, isAdd}
 use Rattle.rules.specs.Cause.{causeOf}
-use Rattle.rules.specs.Nearest.{version}
+use Rattle.rules.specs.Nearest.{version, readSum}
 use Rattle.rules.specs.declared.Found.{Found}
 use Rattle.rules.specs.declared.Found.the-variants.{Nothing, At}
 use Rattle.rules.specs.Clash.{firstClash}
@@ -31,7 +33,7 @@ outcomeOf answer table base shadow = record { answer = answer; after = ledgerOf 
 unfoldable pub startTable : List ℕ → ℕ → List ℕ
 startTable w p =
     let n = started w + 1 in
-    withSets (withEndTime (withState (withParent (withStarted w n) n p) n live) n 0) n (λ k. 0) (λ k. 0)
+    withSets (withEndTime (withState (withParent (withStarted w n) n p) n live) n 0) n (λ k. 0) (λ k. 0) (λ k. 0)
 
 unfoldable pub start : Ledger → ℕ → Outcome
 start s p = record { answer = Started (started (s .table) + 1); after = withTable s (startTable (s .table) p) }
@@ -41,10 +43,15 @@ start s p = record { answer = Started (started (s .table) + 1); after = withTabl
 unfoldable pub readTable : List ℕ → ℕ → ℕ → List ℕ
 readTable w n k = cond (hasRead w n k) w (withRead w n k (counter w + 1))
 
+-- a charge account's answer has the sum too
+unfoldable pub readAnswer : List ℕ → List ℕ → ℕ → ℕ → Answer
+readAnswer w base n k =
+    let found = version w n k in
+    let sum = amountWord (readSum w base n k) in
+    cond (isCharge k) (ReadSum (found .holder) (found .moves) sum) (Read (found .holder) (found .moves))
+
 unfoldable pub read : Ledger → ℕ → ℕ → Outcome
-read s n k =
-    let found = version (s .table) n k in
-    record { answer = Read (found .holder) (found .moves); after = withTable s (readTable (s .table) n k) }
+read s n k = record { answer = readAnswer (s .table) (s .base) n k; after = withTable s (readTable (s .table) n k) }
 
 -- ---- RULES 2.4: write
 
@@ -57,6 +64,14 @@ write s n k card =
       answer = Written;
       after = record { table = writeTable (s .table) n k; base = s .base; shadow = withCard (s .shadow) (shadowPlace n k) card };
     }
+
+-- ---- RULES 2.10: add
+
+unfoldable pub addTable : List ℕ → ℕ → ℕ → ℤ → List ℕ
+addTable w n k x = withPending (withWrite w n k entered) n k (amountWord (pendingSum w n k +ℤ x))
+
+unfoldable pub add : Ledger → ℕ → ℕ → List ℕ → Outcome
+add s n k card = record { answer = Added; after = withTable s (addTable (s .table) n k (amountIn card)) }
 
 -- ---- RULES 4.5 and 4.6: commit
 
@@ -71,12 +86,17 @@ commitCounter w n = cond (hasWrites w n) (counter w + 1) (counter w)
 abbrev pub joinedRead : ℕ → ℕ → ℕ
 joinedRead child parent = cond (eqb child 0) parent (cond (eqb parent 0) child (min child parent))
 
--- p's sets with those of its child n
+-- the word of p's pending sum for charge account k after the commit of its child n; without a write of n's it stays
+abbrev pub joinedPending : List ℕ → ℕ → ℕ → ℕ → ℕ
+joinedPending w n p k = cond (hasWritten w n k) (amountWord (pendingSum w p k +ℤ pendingSum w n k)) (pendingWord w p k)
+
+-- p's sets and pending sums with those of its child n
 unfoldable pub joinTable : List ℕ → ℕ → ℕ → List ℕ
 joinTable w n p =
     withSets w p
     (λ k. joinedRead (readEntry w n k) (readEntry w p k))
     (λ k. cond (hasWritten w n k) entered (writeEntry w p k))
+    (joinedPending w n p)
 
 -- state, end time and counter after n's commit passes
 abbrev pub endTable : List ℕ → ℕ → List ℕ
@@ -88,19 +108,33 @@ commitTable w n p =
     let ended = endTable w n in
     cond (eqb p 0) ended (joinTable ended n p)
 
--- n's own cards copied into a store, each account's to its place; `to` is that store, `shadow` the shadow store before the
--- event
-unfoldable pub copyCards : List ℕ → ℕ → List ℕ → (ℕ → ℕ) → List ℕ → List ℕ
-copyCards w n shadow place to =
-    fold (λ k now. cond (hasWritten w n k) (withCard now (place k) (cardAt shadow (shadowPlace n k))) now) accounts to
+-- each account that is chosen given its card, at its place in a store
+unfoldable pub putCards : (ℕ → Bool) → (ℕ → List ℕ) → (ℕ → ℕ) → List ℕ → List ℕ
+putCards chosen card place to = fold (λ k now. cond (chosen k) (withCard now (place k) (card k)) now) accounts to
+
+-- the card of account k that n's commit puts into the base store: n's own or, of a charge account, the base card with n's
+-- pending sum added to its amount
+unfoldable pub settledCard : Ledger → ℕ → ℕ → List ℕ
+settledCard s n k =
+    cond (isCharge k)
+    (withAmount (cardAt (s .base) (basePlace k)) (baseAmount (s .base) k +ℤ pendingSum (s .table) n k))
+    (cardAt (s .shadow) (shadowPlace n k))
+
+-- the base store after the commit of topaction n, and the shadow store after that of n under p
+unfoldable pub settledBase : Ledger → ℕ → List ℕ
+settledBase s n = putCards (hasWritten (s .table) n) (settledCard s n) basePlace (s .base)
+
+unfoldable pub joinedShadow : Ledger → ℕ → ℕ → List ℕ
+joinedShadow s n p =
+    putCards (hasCard (s .table) n) (λ k. cardAt (s .shadow) (shadowPlace n k)) (shadowPlace p) (s .shadow)
 
 -- the ledger after n's commit under p passes
 unfoldable pub committedUnder : Ledger → ℕ → ℕ → Ledger
 committedUnder s n p =
     record {
       table = commitTable (s .table) n p;
-      base = cond (eqb p 0) (copyCards (s .table) n (s .shadow) basePlace (s .base)) (s .base);
-      shadow = cond (eqb p 0) (s .shadow) (copyCards (s .table) n (s .shadow) (shadowPlace p) (s .shadow));
+      base = cond (eqb p 0) (settledBase s n) (s .base);
+      shadow = cond (eqb p 0) (s .shadow) (joinedShadow s n p);
     }
 
 -- by whether a clash was found
@@ -136,7 +170,8 @@ act s e =
     (cond (isRead e) (read s (e .number) (e .account))
     (cond (isWrite e) (write s (e .number) (e .account) (e .card))
     (cond (isCommit e) (commit s (e .number))
-    (abort s (e .number)))))
+    (cond (isAdd e) (add s (e .number) (e .account) (e .card))
+    (abort s (e .number))))))
 
 -- any event
 unfoldable pub step : Ledger → Event → Outcome

@@ -5,9 +5,11 @@ use Prim.Native.Nat.{ℕ, _+_, _-_, _*_, _≤_, _<_}
 use mathlib.Core.Bool.{Bool, not, _&&_}
 use mathlib.Core.List.{List}
 use lib.Dec.{eqb}
+use lib.IntN.{ℤ}
 use lib.ListN.{getD, set, replicate}
 use Rattle.rules.specs.Range.{upFrom, any, filter, fold}
-use Rattle.rules.specs.Card.{accounts}
+use Rattle.rules.specs.Card.{accounts, isCharge, chargeAccounts}
+use Rattle.rules.specs.Amount.{amountOf}
 
 -- RULES 1.3: how many actions a table sees in its life
 abbrev pub mostActions : ℕ
@@ -18,14 +20,14 @@ IsAction n = (1 ≤ n) × (n ≤ mostActions)
 
 -- the words of a row
 abbrev pub width : ℕ
-width = 67
+width = 75
 
 abbrev pub IsField : ℕ → Type 0
 IsField f = f < width
 
 -- the words of a table: the head's row and a row for each action
 abbrev pub tableLength : ℕ
-tableLength = 4355
+tableLength = 4875
 
 -- word f of row n
 unfoldable pub word : List ℕ → ℕ → ℕ → ℕ
@@ -138,9 +140,31 @@ hasWritten w n k = not (eqb (writeEntry w n k) 0)
 unfoldable pub hasWrites : List ℕ → ℕ → Bool
 hasWrites w n = any (hasWritten w n) accounts
 
--- both sets of action n given anew: account k's read entry is reads k, its write entry writes k
-unfoldable pub withSets : List ℕ → ℕ → (ℕ → ℕ) → (ℕ → ℕ) → List ℕ
-withSets w n reads writes = withFields (withFields w n readField accounts reads) n writeField accounts writes
+-- it has a card of its own for account k; it never has one for a charge account
+abbrev pub hasCard : List ℕ → ℕ → ℕ → Bool
+hasCard w n k = not (isCharge k) && hasWritten w n k
+
+-- its pending sum for charge account k, and the word that this is; the first charge account's stands behind the write set
+abbrev pub pendingFields : ℕ
+pendingFields = 43
+
+abbrev pub pendingField : ℕ → ℕ
+pendingField k = pendingFields + k
+
+abbrev pub pendingWord : List ℕ → ℕ → ℕ → ℕ
+pendingWord w n k = word w n (pendingField k)
+
+abbrev pub withPending : List ℕ → ℕ → ℕ → ℕ → List ℕ
+withPending w n k v = withWord w n (pendingField k) v
+
+abbrev pub pendingSum : List ℕ → ℕ → ℕ → ℤ
+pendingSum w n k = amountOf (pendingWord w n k)
+
+-- both sets and the pending sums of action n given anew: account k's read entry is reads k, its write entry writes k, and of a
+-- charge account the sum's word is sums k
+unfoldable pub withSets : List ℕ → ℕ → (ℕ → ℕ) → (ℕ → ℕ) → (ℕ → ℕ) → List ℕ
+withSets w n reads writes sums =
+    withFields (withFields (withFields w n readField accounts reads) n writeField accounts writes) n pendingField chargeAccounts sums
 
 -- ---- RULES 1.5: the states
 

@@ -24,3 +24,9 @@ pub const LENGTH: u64 = 10;
 pub const COUNT: u64 = 11;
 
 pub const OPENING: u64 = 12;
+
+pub const KIND: u64 = 13;
+
+pub const AMOUNT: u64 = 14;
+
+pub const SUM: u64 = 15;

@@ -23,4 +23,4 @@ pub const FILE_LENGTH: usize = CARD_COUNT_LENGTH
 
 pub const ANSWERS_LENGTH: usize = ANSWER_LENGTH * MOST_EVENTS;
 
-pub const LISTING_LENGTH: usize = 65536;
+pub const LISTING_LENGTH: usize = 81920;

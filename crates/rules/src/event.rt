@@ -9,6 +9,8 @@ pub const COMMIT: u64 = 4;
 
 pub const ABORT: u64 = 5;
 
+pub const ADD: u64 = 6;
+
 pub const EVENT_LENGTH: usize = 35;
 
 pub const NUMBER_AT: usize = 1;

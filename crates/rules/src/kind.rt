@@ -13,4 +13,8 @@ pub const FAILED: u64 = 5;
 
 pub const ABORTED: u64 = 6;
 
-pub const ANSWER_LENGTH: usize = 3;
+pub const ADDED: u64 = 7;
+
+pub const READ_SUM: u64 = 8;
+
+pub const ANSWER_LENGTH: usize = 4;

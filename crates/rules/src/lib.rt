@@ -1,6 +1,7 @@
 // What the rules say in types and numbers: answers, versions, the outcome of a clash search, and every size, place and code by
 // name.
 // The definitions of specs/ are the rules themselves; nothing here computes.
+pub mod amount;
 pub mod cause;
 pub mod day;
 pub mod event;
@@ -15,7 +16,10 @@ pub enum Answer {
     Started(u64),
     // the holder of the nearest version, and the moves up to it
     Read(u64, u64),
+    // the same of a charge account, and the word of the sum that the action sees there
+    ReadSum(u64, u64, u64),
     Written,
+    Added,
     // the end time, 0 where nothing was written
     Committed(u64),
     // the end time and the account of the first clash

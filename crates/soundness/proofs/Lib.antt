@@ -1,2 +1,3 @@
 -- Facts that the proofs of the test use.
+mod PendingWords
 mod ReadTimes

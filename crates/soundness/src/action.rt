@@ -4,6 +4,7 @@ ghost use Prim.Native.Nat.{_≤_};
 ghost use Rattle.rules.specs.Table.{mostActions, parentOf};
 ghost use Rattle.rules.specs.Sound.{hasState, hasParentBelow, hasParentAlive, isSoundAction};
 ghost use Rattle.rows.specs.Row.{HasRow};
+use crate::pending::has_pending_written;
 use crate::times::has_end_alone;
 use crate::times::has_end_in_time;
 use crate::times::has_read_in_time;
@@ -71,5 +72,8 @@ pub(crate) fn is_sound_action(table: &[u64], n: u64) -> bool
     if !has_end_in_time(table, n) {
         return false;
     }
-    has_end_alone(table, n)
+    if !has_end_alone(table, n) {
+        return false;
+    }
+    has_pending_written(table, n)
 }

@@ -1,8 +1,8 @@
--- The three numbers handed back are the words of the answer, which says what the rule's answer says. Assumes nothing.
-use mathlib.Core.Path.{_∙_}
+-- The four numbers handed back are the words of the answer, which is the rule's. Assumes nothing.
+use mathlib.Core.Path.{ap, _∙_}
 use borrow.Author.Needs.{needs}
-use Rattle.rules.proofs.Laws.AnswerWords.{three-words}
-use Rattle.capi.proofs.AnswerWords.{words-given}
+use Rattle.rules.specs.Encoding.{wordsOf}
+use Rattle.rules.proofs.Laws.AnswerWords.{four-words}
 use Rattle.capi.proofs.mundzavch_event.Statement.{statement}
 use Rattle.capi.proofs.mundzavch_event.Tie as tie
 
@@ -17,6 +17,9 @@ array-read-first c = search needs
 
 array-read-second : tie.Need-array-read-second
 array-read-second c = search needs
+
+array-read-third : tie.Need-array-read-third
+array-read-third c = search needs
 
 array-read-result : tie.Need-array-read-result
 array-read-result c = search needs
@@ -34,7 +37,7 @@ returns : tie.Need-returns
 returns c =
     let event = c .before .before .before .before .before .before .before .event in
     record {
-      says = rw (c .words .ensures) (three-words (event .result) ∙ words-given (event .ensures));
+      says = rw (c .words .ensures) (four-words (event .result) ∙ ap wordsOf (event .ensures .is));
       leaves = event .ensures .leaves;
     }
 
@@ -46,6 +49,7 @@ mundzavch-event-spec =
     words-requires
     array-read-first
     array-read-second
+    array-read-third
     array-read-result
     same-length
     same-length-2

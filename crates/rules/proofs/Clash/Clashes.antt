@@ -16,7 +16,8 @@ use Rattle.rules.specs.Sound.{IsStarted}
 use Rattle.rules.specs.declared.Found.{Found}
 use Rattle.rules.specs.declared.Found.the-variants.{Nothing, At}
 use Rattle.rules.specs.Clash.{isClash, Pair, pairsWith, clashesWith, clashes, isBefore, earlier, least, firstClash}
-use Rattle.rules.specs.Event.{Event, isCommit}
+use Rattle.rules.specs.Event.{Event, commitCode, isCommit}
+use Rattle.rules.specs.Cause.{isCommitOutside, areOutside, isSumOutside}
 use Rattle.rules.specs.Ledger.{Ledger}
 use Rattle.rules.specs.Step.{commitTime, judged, commit, step}
 use Rattle.rules.proofs.Laws.EventCases.{causeIn, step-commits}
@@ -291,3 +292,12 @@ committed-exactly s e allowed is =
       λ h. committed-no-clash s (e .number) (h .0) (ap (λ o. o .answer) (sym same) ∙ h .1),
       λ h. (commitTime (s .table) (e .number), ap (λ o. o .answer) same ∙ no-clash-commits s (e .number) h),
     )
+
+-- RULES 8.4: a commit with a clash isn't refused for its sums
+pub clash-makes-no-sum :
+    (s : Ledger) (e : Event) → isCommit e ≡ true → clashes (s .table) (e .number) ≢ [] →
+    isSumOutside (s .table) (s .base) e ≡ false
+unfolding areOutside isCommitOutside
+clash-makes-no-sum s e is some =
+    let (t, k, found, failed) = clash-fails s (e .number) some in
+    rw (eqb-true (e .code) commitCode is, found)

@@ -3,17 +3,17 @@
 use Prim.Native.Nat.{ℕ, _<_}
 use mathlib.Core.Path.{_≡_}
 use mathlib.Core.Bool.{Bool, true, cond, _&&_}
-use mathlib.Core.Option.{none, some}
 use mathlib.Core.List.{List}
 use lib.Dec.{leb, ltb, eqb}
-use Rattle.rules.specs.Card.{accountCount, basePlace, shadowPlace, cardAt}
-use Rattle.rules.specs.Table.{started, parentOf, endTime, hasRead, readTime, hasWritten, isLive, isRecordOf}
+use Rattle.rules.specs.Card.{accountCount, isCharge, basePlace, shadowPlace, cardAt}
+use Rattle.rules.specs.Table.{mostActions, started, parentOf, endTime, hasRead, readTime, hasWritten, pendingSum, isLive, isRecordOf}
+use Rattle.rules.specs.Walk.{walkUp}
 use Rattle.rules.specs.Sound.{IsStarted}
-use Rattle.rules.specs.Nearest.{nearest}
 use Rattle.rules.specs.Ledger.{Ledger}
-use Rattle.rules.specs.Serial.Effect.{Effect}
-use Rattle.rules.proofs.Serial.Values.{cards}
+use Rattle.rules.specs.Serial.Effect.{Effect, nothing, puts, adds}
+use Rattle.rules.proofs.Serial.Values.{AccountValue, over, accountValues}
 use Rattle.rules.proofs.Serial.AbstractState as serial
+use Rattle.rules.proofs.Serial.Shown.{shownBase}
 
 -- X is the number of a started action that is live
 unfoldable pub isAlive : List ℕ → ℕ → Bool
@@ -23,25 +23,29 @@ isAlive w X = leb 1 X && leb X (started w) && isLive w X
 unfoldable pub cardOf : Ledger → ℕ → ℕ → List ℕ
 cardOf s X k = cond (eqb X 0) (cardAt (s .base) (basePlace k)) (cardAt (s .shadow) (shadowPlace X k))
 
--- an action's effect is the card of its own, where it has one; on numbers that are no account nobody has an effect
-unfoldable pub effectOf : Ledger → ℕ → ℕ → Effect
-effectOf s X k = cond (ltb k accountCount && hasWritten (s .table) X k) (some (cardAt (s .shadow) (shadowPlace X k))) none
+-- what an action has done to an account in its write set: its own card stands there or, of a charge account, its pending sum
+unfoldable pub writtenEffect : Ledger → ℕ → ℕ → Effect
+writtenEffect s X k = cond (isCharge k) (adds (pendingSum (s .table) X k)) (puts (cardAt (s .shadow) (shadowPlace X k)))
 
--- an action's view of an account is its nearest version's card
-unfoldable pub viewOf : Ledger → ℕ → ℕ → List ℕ
-viewOf s X k = cond (ltb k accountCount) (cardOf s (nearest (s .table) X k) k) (cardOf s 0 k)
+-- on numbers that are no account nobody has an effect
+unfoldable pub effectOf : Ledger → ℕ → ℕ → Effect
+effectOf s X k = cond (ltb k accountCount && hasWritten (s .table) X k) (writtenEffect s X k) nothing
+
+-- an action's view of an account: its own effect over what its parent sees, and so on up to what the base shows
+unfoldable pub viewOf : Ledger → ℕ → ℕ → AccountValue
+viewOf s X k = walkUp (parentOf (s .table)) (shownBase (s .base) k) (λ m above. over (effectOf s m k) above) mostActions X
 
 unfoldable pub hasReadAccount : List ℕ → ℕ → ℕ → Bool
 hasReadAccount w X k = ltb k accountCount && hasRead w X k
 
-abbrev pub abstraction : Ledger → serial.AbstractState cards
+abbrev pub abstraction : Ledger → serial.AbstractState accountValues
 abstraction s =
     record {
       live = isAlive (s .table);
       parent = parentOf (s .table);
       hasRead = hasReadAccount (s .table);
       eff = effectOf s;
-      base = cardOf s 0;
+      base = shownBase (s .base);
       view = viewOf s;
     }
 

@@ -1,26 +1,31 @@
--- The abstraction of a ledger case by case, and that its live actions form a tree. Assumes nothing.
+-- The abstraction of a ledger case by case, that its live actions form a tree, and that charge accounts are seen through to the
+-- base. Assumes nothing.
 use Prim.Native.Nat.{ℕ, _≤_, _<_}
 use native.Mathlib.Omega.{arith}
 use native.Mathlib.Decide.{ℕ-discrete, decLt}
-use mathlib.Core.Path.{_≡_, refl, sym, _∙_}
-use mathlib.Core.Logic.{_⊎_, inl, inr}
-use mathlib.Core.Bool.{Bool, true, false, cond, _&&_}
-use mathlib.Core.Option.{none, some}
+use mathlib.Core.Path.{_≡_, refl, sym, ap, _∙_}
+use mathlib.Core.Logic.{_⊎_, inl, inr, ⊎-elim, _≢_}
+use mathlib.Core.Bool.{true, false, cond, _&&_}
 use mathlib.Core.List.{List}
 use lib.Dec.{leb, ltb}
-use borrow.Author.Tests.{ltb-true, leb-true, lt-ltb, le-ltb, le-leb, ne-eqb}
-use Rattle.rules.specs.Card.{accountCount, basePlace, shadowPlace, cardAt}
-use Rattle.rules.specs.Table.{newTable, word, started, parentOf, hasRead, hasWritten, isLive}
+use lib.IntN.{ℤ, pos, _+ℤ_, +ℤ-idl}
+use borrow.Author.Tests.{ltb-true, leb-true, lt-ltb, le-ltb, le-leb}
+use Rattle.rules.specs.Card.{accountCount, firstCharge, isCharge, IsCharge, basePlace, shadowPlace, cardAt}
+use Rattle.rules.specs.Amount.{amountOf}
+use Rattle.rules.specs.Table.{newTable, mostActions, word, started, parentOf, hasRead, hasWritten, pendingSum, isLive}
 use Rattle.rules.specs.Sound.{IsStarted}
-use Rattle.rules.specs.Nearest.{nearest}
 use Rattle.rules.specs.Ledger.{Ledger}
-use Rattle.rules.specs.Serial.Effect.{over}
-use Rattle.rules.proofs.Laws.Tests.{and-left, and-right, and-both}
-use Rattle.rules.proofs.Laws.Walking.{parent-known, depth, depth-step, sound-climbs, nearest-store, nearest-step}
-use Rattle.rules.proofs.Serial.Values.{over-none}
+use Rattle.rules.specs.Serial.Effect.{nothing, puts, adds, lay}
+use Rattle.rules.proofs.Laws.Tests.{test, and-left, and-right, and-both, cond-holds}
+use Rattle.rules.proofs.Laws.Amounts.{amount-zero}
+use Rattle.rules.proofs.Laws.Walking.{walk-store, walk-step, Climbs, parent-known, depth, depth-step, sound-climbs}
+use Rattle.rules.proofs.Serial.Values.{over, hides}
 use Rattle.rules.proofs.Serial.AbstractState.{Tree}
+use Rattle.rules.proofs.Serial.Ground.{ChargesSeen}
+use Rattle.rules.proofs.Serial.Shown.{shownBase, accountCharges, shown-is-storable}
+use Rattle.rules.proofs.Serial.Settling.{is-charge, below-charges}
 use Rattle.rules.proofs.Demand.Proper.{Proper}
-use Rattle.rules.proofs.Demand.Abstraction.{isAlive, cardOf, effectOf, viewOf, hasReadAccount, abstraction}
+use Rattle.rules.proofs.Demand.Abstraction.{isAlive, writtenEffect, effectOf, viewOf, hasReadAccount, abstraction}
 
 -- ---- who is live, and who has read what
 
@@ -57,7 +62,7 @@ module _ (w : List ℕ) (X k : ℕ) where
   unfolding hasReadAccount
   account-read account = and-both (lt-ltb k accountCount account)
 
--- ---- effects, cards and views: of an account, and of a number that is none
+-- ---- effects: of an account, and of a number that is none
 
 -- what holds of the accounts and of the other numbers holds of every number
 pub by-account : {P : Type 0} (k : ℕ) → (k < accountCount → P) → (accountCount ≤ k → P) → P
@@ -67,55 +72,79 @@ by-account {P} k account beyond = cases (decLt k accountCount)
     cases (yes h) = account h
     cases (no h) = beyond (omega arith)
 
-pub card-of-store : (s : Ledger) (k : ℕ) → cardOf s 0 k ≡ cardAt (s .base) (basePlace k)
-unfolding cardOf
-card-of-store s k = refl
+-- an account is a charge account or not
+pub by-charge : {P : Type 0} {k : ℕ} → k < accountCount → (k < firstCharge → P) → (IsCharge k → P) → P
+by-charge {P} {k} account below charge = cases (decLt k firstCharge)
+  where
+    cases : Dec (k < firstCharge) → P
+    cases (yes h) = below h
+    cases (no h) = charge (omega arith)
 
 module _ (s : Ledger) (X k : ℕ) where
-  card-of-action : 1 ≤ X → cardOf s X k ≡ cardAt (s .shadow) (shadowPlace X k)
-  unfolding cardOf
-  card-of-action one = rw (ne-eqb X 0 (λ z. omega arith))
-
-  pub effect-account :
-      k < accountCount →
-      effectOf s X k ≡ cond (hasWritten (s .table) X k) (some (cardAt (s .shadow) (shadowPlace X k))) none
+  pub effect-account : k < accountCount → effectOf s X k ≡ cond (hasWritten (s .table) X k) (writtenEffect s X k) nothing
   unfolding effectOf
   effect-account account = rw (lt-ltb k accountCount account)
 
-  pub effect-written :
-      k < accountCount → hasWritten (s .table) X k ≡ true → effectOf s X k ≡ some (cardAt (s .shadow) (shadowPlace X k))
-  effect-written account written = effect-account account ∙ rw written
+  pub effect-card :
+      k < firstCharge → hasWritten (s .table) X k ≡ true → effectOf s X k ≡ puts (cardAt (s .shadow) (shadowPlace X k))
+  unfolding writtenEffect
+  effect-card below written = effect-account (omega arith) ∙ rw (written, below-charges below)
 
-  pub effect-unwritten : k < accountCount → hasWritten (s .table) X k ≡ false → effectOf s X k ≡ none
+  pub effect-sum : IsCharge k → hasWritten (s .table) X k ≡ true → effectOf s X k ≡ adds (pendingSum (s .table) X k)
+  unfolding writtenEffect
+  effect-sum charge written = effect-account (charge .1) ∙ rw (written, is-charge charge)
+
+  pub effect-unwritten : k < accountCount → hasWritten (s .table) X k ≡ false → effectOf s X k ≡ nothing
   effect-unwritten account unwritten = effect-account account ∙ rw unwritten
 
-  pub effect-no-account : accountCount ≤ k → effectOf s X k ≡ none
+  pub effect-no-account : accountCount ≤ k → effectOf s X k ≡ nothing
   unfolding effectOf
   effect-no-account beyond = rw (le-ltb k accountCount beyond)
 
-  pub view-account : k < accountCount → viewOf s X k ≡ cardOf s (nearest (s .table) X k) k
-  unfolding viewOf
-  view-account account = rw (lt-ltb k accountCount account)
+  -- an effect on a charge account doesn't hide, whatever the ledger
+  effect-seen-through : isCharge k ≡ true → hides (effectOf s X k) ≡ false
+  unfolding effectOf writtenEffect hides
+  effect-seen-through charge =
+      cond-holds (λ f. hides f ≡ false) (ltb k accountCount && hasWritten (s .table) X k) (λ _. rw charge) (λ _. refl)
 
-  view-no-account : accountCount ≤ k → viewOf s X k ≡ cardOf s 0 k
-  unfolding viewOf
-  view-no-account beyond = rw (le-ltb k accountCount beyond)
+-- a charge account that isn't in the write set has no sum
+module _ (s : Ledger) (proper : Proper s) (X k : ℕ) (begun : IsStarted (s .table) X) (charge : IsCharge k) where
+  pub no-sum : hasWritten (s .table) X k ≡ false → pendingSum (s .table) X k ≡ pos 0
+  no-sum unwritten = ap amountOf (proper .sound .pendings X k begun charge unwritten) ∙ amount-zero
+
+  -- so what is laid on it, or on one that is, joins the sum
+  pub sum-laid : (x : ℤ) → lay (adds x) (effectOf s X k) ≡ adds (pendingSum (s .table) X k +ℤ x)
+  unfolding lay
+  sum-laid x =
+      ⊎-elim
+      (λ written. rw (effect-sum s X k charge written))
+      (λ unwritten. rw (effect-unwritten s X k (charge .1) unwritten, no-sum unwritten) (ap adds (sym (+ℤ-idl x))))
+      (test (hasWritten (s .table) X k))
+
+pub charges-seen : (s : Ledger) → ChargesSeen accountCharges (abstraction s)
+charges-seen s =
+    record {
+      seen-through = λ X k l. effect-seen-through s X k;
+      fits = λ k. shown-is-storable k (cardAt (s .base) (basePlace k));
+    }
+
+-- ---- views
+
+pub view-store : (s : Ledger) (k : ℕ) → viewOf s 0 k ≡ shownBase (s .base) k
+unfolding viewOf
+view-store s k = walk-store _ _ _ mostActions
+
+pub view-step :
+    (s : Ledger) (X k : ℕ) → X ≢ 0 → Climbs (s .table) X →
+    viewOf s X k ≡ over (effectOf s X k) (viewOf s (parentOf (s .table) X) k)
+unfolding viewOf
+view-step s X k = walk-step _ _ _ mostActions X
 
 -- ---- the tree
 
 store-not-alive : (w : List ℕ) → isAlive w 0 ≡ false
 unfolding isAlive
 store-not-alive w = refl
-
-store-view : (s : Ledger) (k : ℕ) → viewOf s 0 k ≡ cardOf s 0 k
-store-view s k =
-    by-account k (λ account. view-account s 0 k account ∙ rw (nearest-store (s .table) k)) (view-no-account s 0 k)
-
--- an own card or none, over a card
-over-chosen : (b : Bool) (own card : List ℕ) → over (cond b (some own) none) card ≡ cond b own card
-unfolding over
-over-chosen true own card = refl
-over-chosen false own card = refl
 
 module _ (s : Ledger) (proper : Proper s) where
   -- A live action's parent is the store or live, and so it has started. The store is told by its number alone:
@@ -138,43 +167,21 @@ module _ (s : Ledger) (proper : Proper s) where
       cases (no action) (inl store) = inl store
       cases (no action) (inr live) = inr (live-alive (s .table) parent (omega arith, parent-known (proper .sound) X begun) live)
 
-  -- RULES 3.1, one step up
-  view-step :
-      (X : ℕ) → IsStarted (s .table) X → (k : ℕ) → k < accountCount →
-      viewOf s X k ≡ cond (hasWritten (s .table) X k) (cardAt (s .shadow) (shadowPlace X k)) (viewOf s (parentOf (s .table) X) k)
-  view-step X begun k account =
-      view-account s X k account
-      ∙ rw (nearest-step (s .table) X k (λ z. omega (arith, begun)) (sound-climbs (proper .sound) X (begun .1)))
-      (cases (hasWritten (s .table) X k))
-    where
-      cases :
-          (b : Bool) →
-          cardOf s (cond b X (nearest (s .table) (parentOf (s .table) X) k)) k
-          ≡ cond b (cardAt (s .shadow) (shadowPlace X k)) (viewOf s (parentOf (s .table) X) k)
-      cases true = card-of-action s X k (begun .0)
-      cases false = sym (view-account s (parentOf (s .table) X) k account)
-
-  effect-over-parent :
-      (X : ℕ) → IsStarted (s .table) X → (k : ℕ) →
-      viewOf s X k ≡ over (effectOf s X k) (viewOf s (parentOf (s .table) X) k)
-  effect-over-parent X begun k =
-      by-account k
-      (λ account. rw (effect-account s X k account, over-chosen) (view-step X begun k account))
-      (λ beyond.
-      rw (effect-no-account s X k beyond, over-none, view-no-account s X k beyond, view-no-account s (parentOf (s .table) X) k beyond))
+  action-climbs : (X : ℕ) → IsStarted (s .table) X → (X ≢ 0) × Climbs (s .table) X
+  action-climbs X begun = (λ z. omega (arith, begun), sound-climbs (proper .sound) X (begun .1))
 
   deeper-than-parent : (X : ℕ) → IsStarted (s .table) X → depth (s .table) (parentOf (s .table) X) < depth (s .table) X
   deeper-than-parent X begun =
-      rw (depth-step (s .table) X (λ z. omega (arith, begun)) (sound-climbs (proper .sound) X (begun .1))) (omega arith)
+      let (ne, up) = action-climbs X begun in rw (depth-step (s .table) X ne up) (omega arith)
 
   -- the rank is the depth
   pub abstract-tree : Tree (abstraction s)
   abstract-tree =
       record {
         store-not-live = store-not-alive (s .table);
-        store-view = store-view s;
+        store-view = view-store s;
         parent-held = parent-alive;
-        live-view = λ X l. effect-over-parent X (alive-started (s .table) X l);
+        live-view = λ X l k. let (ne, up) = action-climbs X (alive-started (s .table) X l) in view-step s X k ne up;
         rank = depth (s .table);
         rank-falls = λ X l. deeper-than-parent X (alive-started (s .table) X l);
       }

@@ -5,7 +5,9 @@ use Rattle.rules.proofs.Demand.Abstraction.{abstraction, Stale}
 use Rattle.rules.proofs.Demand.JudgingRule.{JudgingRule}
 use Rattle.rules.proofs.Demand.Starts.{start-old}
 use Rattle.rules.proofs.Demand.Reads.{read-old}
-use Rattle.rules.proofs.Demand.Writes.{stale-after-write}
+use Rattle.rules.proofs.Demand.Entering.{entering-old}
+use Rattle.rules.proofs.Demand.Writes.{write-enters}
+use Rattle.rules.proofs.Demand.Adds.{add-enters}
 use Rattle.rules.proofs.Demand.Drops.{abort-old, fail-old}
 use Rattle.rules.proofs.Demand.Passes.{no-clash-passes}
 use Rattle.rules.proofs.Demand.CommitStale.{stale-at-commit}
@@ -17,7 +19,8 @@ backward =
       passes = λ s proper n j. no-clash-passes s n;
       at-start = start-old;
       at-read = read-old;
-      at-write = stale-after-write;
+      at-write = λ s proper n k p below card whole. entering-old proper p (write-enters s proper n k p below card whole);
+      at-add = λ s proper n k p charge card fits. entering-old proper p (add-enters s proper n k p charge card fits);
       at-abort = abort-old;
       at-failed-commit = fail-old;
       at-commit = λ s proper n j. stale-at-commit proper j refl;

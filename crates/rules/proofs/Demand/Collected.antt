@@ -5,33 +5,35 @@ use native.Mathlib.Omega.{arith}
 use native.Mathlib.Decide.{ℕ-discrete}
 use mathlib.Core.Path.{_≡_, refl, sym, ap, _∙_}
 use mathlib.Core.Logic.{_≢_}
-use mathlib.Core.Option.{some}
-use mathlib.Core.List.{List}
-use Rattle.rules.specs.Card.{IsCard}
+use mathlib.Core.Bool.{true, false}
+use Rattle.rules.specs.declared.Found.the-variants.{Nothing}
+use Rattle.rules.specs.Card.{isCharge}
 use Rattle.rules.specs.Table.{started, parentOf}
 use Rattle.rules.specs.Sound.{IsStarted}
 use Rattle.rules.specs.Ledger.{Ledger}
-use Rattle.rules.specs.Step.{start, read, write, committedUnder}
+use Rattle.rules.specs.Cause.{isCommitOutside}
+use Rattle.rules.specs.Step.{start, read, committedUnder}
 use Rattle.rules.specs.Serial.Effect.{Effect}
 use Rattle.rules.specs.Serial.Block.{Block, empty, child}
-use Rattle.rules.specs.Serial.Collect.{put, Known, begun, laid}
+use Rattle.rules.specs.Serial.Collect.{put, Known, begun, laid, grown}
 use Rattle.rules.proofs.Laws.Permitted.{Startable, Touchable, Committable, not-own-parent}
 use Rattle.rules.proofs.Laws.Puts.{put-there, put-elsewhere, put-holds}
-use Rattle.rules.proofs.Serial.Values.{cards}
+use Rattle.rules.proofs.Serial.Values.{AccountValue, accountValues}
 use Rattle.rules.proofs.Serial.AbstractState.{AbstractState, Live}
 use Rattle.rules.proofs.Serial.Change.{Stays}
 use Rattle.rules.proofs.Serial.Events.{NobodyNew, Drop}
 use Rattle.rules.proofs.Serial.Invariant.{Put}
-use Rattle.rules.proofs.Serial.Rule.{Holds, rule-start, rule-read, rule-write, rule-commit, rule-drop}
-use Rattle.rules.proofs.Serial.Settling.{whole-card}
+use Rattle.rules.proofs.Serial.GroundedRule.{GroundedHolds, grounded-start, grounded-read, grounded-write, grounded-commit, grounded-drop}
+use Rattle.rules.proofs.Serial.Shown.{shownBase, accountCharges}
+use Rattle.rules.proofs.Serial.Settling.{WholeOn}
 use Rattle.rules.proofs.Serial.Running.{Whole, OnlyChildren}
 use Rattle.rules.proofs.Sound.Starting.{start-parent}
-use Rattle.rules.proofs.Demand.Abstraction.{abstraction}
+use Rattle.rules.proofs.Demand.Abstraction.{viewOf, abstraction}
 use Rattle.rules.proofs.Demand.Proper.{Proper}
-use Rattle.rules.proofs.Demand.AbstractionLaws.{live-alive}
+use Rattle.rules.proofs.Demand.AbstractionLaws.{live-alive, charges-seen}
 use Rattle.rules.proofs.Demand.Starts.{start-starts}
-use Rattle.rules.proofs.Demand.Reads.{lookedIn, read-reads, read-shows}
-use Rattle.rules.proofs.Demand.Writes.{abstract-write}
+use Rattle.rules.proofs.Demand.Reads.{read-reads}
+use Rattle.rules.proofs.Demand.Entering.{Entering, entering-writes}
 use Rattle.rules.proofs.Demand.CommitTable.{still-alive-other}
 use Rattle.rules.proofs.Demand.CommitChange.{abstract-commit}
 use Rattle.rules.proofs.Demand.JudgingRule.{JudgingRule}
@@ -39,40 +41,38 @@ use Rattle.rules.proofs.Demand.JudgingRule.{JudgingRule}
 -- ---- what is kept
 
 -- of the live actions the collector knows the parents
-abbrev KnowsParents : AbstractState cards → (ℕ → ℕ) → Type 0
+abbrev KnowsParents : AbstractState accountValues → (ℕ → ℕ) → Type 0
 KnowsParents s parent = (X : ℕ) → Live s X → parent X ≡ s .parent X
 
--- got: the card that the read at each place was given; opening: the cards of the opening base store
-pub record Kept (J : JudgingRule) (got opening : ℕ → List ℕ) (s : Ledger) (c : Known) : Type 0 where
+-- got: what the reader at each place saw; ground: what the base showed there of a charge account; opening: what the opening base
+-- store shows
+pub record Kept (J : JudgingRule) (got ground opening : ℕ → AccountValue) (s : Ledger) (c : Known) : Type 0 where
   pub proper : Proper s
-  pub holds : Holds (J .rule) got opening s (c .block)
+  pub holds : GroundedHolds (J .rule) accountCharges got ground opening s (c .block)
   pub parents : KnowsParents (abstraction s) (c .parent)
   pub whole : (n : ℕ) → Whole (c .block n)
   pub top : OnlyChildren (c .block 0)
 
 -- a parent that is known stays so while nobody is new and live actions keep their parents
 same-parents :
-    {s s′ : AbstractState cards} {parent : ℕ → ℕ} → NobodyNew s s′ → ((X : ℕ) → Stays s s′ X → s′ .parent X ≡ s .parent X) →
+    {s s′ : AbstractState accountValues} {parent : ℕ → ℕ} → NobodyNew s s′ → ((X : ℕ) → Stays s s′ X → s′ .parent X ≡ s .parent X) →
     KnowsParents s parent → KnowsParents s′ parent
 same-parents nobody-new kept known X l′ =
     let l = nobody-new X l′ in
     known X l ∙ sym (kept X (record { before = l; after = l′ }))
 
--- what is known with the block of n grown to d
-abbrev grown : Known → ℕ → Block Effect → Known
-grown c n d = record { parent = c .parent; block = put (c .block) n d }
-
 -- ---- event by event
 
--- J, got and opening as above, at place i, from a state and what is collected before it to the state after
-module _ (J : JudgingRule) (got opening : ℕ → List ℕ) {s : Ledger} {c : Known} (kept : Kept J got opening s c) (i : ℕ) where
+-- J, got, ground and opening as above, at place i, from a state and what is collected before it to the state after
+module _
+    (J : JudgingRule) (got ground opening : ℕ → AccountValue) {s : Ledger} {c : Known} (kept : Kept J got ground opening s c) (i : ℕ) where
   -- an abort or a failed commit: no block changes
   pub drop-kept :
-      (s′ : Ledger) → Proper s′ → Drop (abstraction s) (abstraction s′) → J .rule .CalmFacts s s′ → Kept J got opening s′ c
+      (s′ : Ledger) → Proper s′ → Drop (abstraction s) (abstraction s′) → J .rule .CalmFacts s s′ → Kept J got ground opening s′ c
   drop-kept s′ proper′ drop facts =
       record {
         proper = proper′;
-        holds = rule-drop (J .rule) got opening s s′ (kept .holds) drop facts;
+        holds = grounded-drop (J .rule) accountCharges got ground opening charges-seen s s′ (kept .holds) drop facts;
         parents = same-parents (drop .nobody-new) (drop .still .parent-kept) (kept .parents);
         whole = kept .whole;
         top = kept .top;
@@ -101,13 +101,13 @@ module _ (J : JudgingRule) (got opening : ℕ → List ℕ) {s : Ledger} {c : Kn
         let l = starts .nobody-else-new X l′ ne in
         kept .parents X l ∙ sym (starts .still .parent-kept X (record { before = l; after = l′ })))
 
-    pub start-kept : Proper (start s p .after) → Kept J got opening (start s p .after) (begun c new p)
+    pub start-kept : Proper (start s p .after) → Kept J got ground opening (start s p .after) (begun c new p)
     unfolding start Whole
     start-kept proper′ =
         record {
           proper = proper′;
           holds =
-              rule-start (J .rule) got opening s (start s p .after) (kept .holds) new
+              grounded-start (J .rule) accountCharges got ground opening charges-seen s (start s p .after) (kept .holds) new
               (start-starts s (kept .proper) p permitted) (J .at-start s (kept .proper) p permitted) new-put;
           parents = new-parents;
           whole = put-holds (c .block) new empty (λ _. Whole) tt (λ m _. kept .whole m);
@@ -132,42 +132,41 @@ module _ (J : JudgingRule) (got opening : ℕ → List ℕ) {s : Ledger} {c : Kn
 
   module _ (n k : ℕ) (permitted : Touchable (s .table) n k) where
     pub read-kept :
-        Proper (read s n k .after) → lookedIn (read s n k .after) n k ≡ got i →
-        Kept J got opening (read s n k .after) (grown c n (Block.read (c .block n) i k))
+        Proper (read s n k .after) → viewOf (read s n k .after) n k ≡ got i →
+        (isCharge k ≡ true → shownBase (read s n k .after .base) k ≡ ground i) →
+        Kept J got ground opening (read s n k .after) (grown c n (Block.read (c .block n) i k))
     unfolding read Whole
-    read-kept proper′ given =
+    read-kept proper′ seen below =
         let reads = read-reads s (kept .proper) n k permitted in
         let own = permitted .own in
         record {
           proper = proper′;
           holds =
-              rule-read (J .rule) got opening s (read s n k .after) (kept .holds) n k i reads
-              (read-shows s (kept .proper) n k permitted ∙ given)
-              (J .at-read s (kept .proper) n k permitted)
+              grounded-read (J .rule) accountCharges got ground opening charges-seen s (read s n k .after) (kept .holds) n k i reads
+              seen below (J .at-read s (kept .proper) n k permitted)
               (own-put n own (Block.read (c .block n) i k) (read s n k .after));
           parents = same-parents (reads .nobody-new) (reads .still .parent-kept) (kept .parents);
           whole = own-whole n own (Block.read (c .block n) i k) (kept .whole n);
           top = own-top n own (Block.read (c .block n) i k);
         }
 
-    module _ (card : List ℕ) (size : IsCard card) where
-      pub write-kept :
-          Proper (write s n k card .after) →
-          Kept J got opening (write s n k card .after) (grown c n (Block.write (c .block n) i k (some card)))
-      unfolding write Whole
-      write-kept proper′ =
-          let writes = abstract-write s (kept .proper) n k permitted card size in
-          let own = permitted .own in
-          record {
-            proper = proper′;
-            holds =
-                rule-write (J .rule) got opening s (write s n k card .after) (kept .holds) n k i (some card) writes
-                (J .at-write s (kept .proper) n k permitted card size)
-                (own-put n own (Block.write (c .block n) i k (some card)) (write s n k card .after));
-            parents = same-parents (writes .nobody-new) (writes .change .parent-kept) (kept .parents);
-            whole = own-whole n own (Block.write (c .block n) i k (some card)) (kept .whole n, whole-card (permitted .account) size);
-            top = own-top n own (Block.write (c .block n) i k (some card));
-          }
+    -- a write or an add
+    pub enter-kept :
+        {s′ : Ledger} {f : Effect} → Entering s s′ n k f → WholeOn k f → J .rule .CalmFacts s s′ →
+        Kept J got ground opening s′ (grown c n (Block.write (c .block n) i k f))
+    unfolding Whole
+    enter-kept {s′} {f} enters whole facts =
+        let writes = entering-writes (kept .proper) permitted enters in
+        let own = permitted .own in
+        record {
+          proper = enters .proper;
+          holds =
+              grounded-write (J .rule) accountCharges got ground opening charges-seen s s′ (kept .holds) n k i f writes facts
+              (own-put n own (Block.write (c .block n) i k f) s′);
+          parents = same-parents (writes .nobody-new) (writes .change .parent-kept) (kept .parents);
+          whole = own-whole n own (Block.write (c .block n) i k f) (kept .whole n, whole);
+          top = own-top n own (Block.write (c .block n) i k f);
+        }
 
   -- a commit: the block of n is taken out and laid into its parent's
   module _ (n : ℕ) (j : Committable (s .table) n) where
@@ -227,14 +226,16 @@ module _ (J : JudgingRule) (got opening : ℕ → List ℕ) {s : Ledger} {c : Kn
         cases (yes e) = rw (← e) (rw (put-there rest 0 (child (rest 0) i n (c .block n))) rest-top)
         cases (no ne) = rw (put-elsewhere rest p (child (rest p) i n (c .block n)) 0 ne) rest-top
 
-    pub pass-kept : Proper s′ → J .rule .pass s n → Kept J got opening s′ (laid i c n)
+    pub pass-kept :
+        isCommitOutside (s .table) (s .base) n Nothing ≡ false → Proper s′ → J .rule .pass s n →
+        Kept J got ground opening s′ (laid i c n)
     unfolding committedUnder
-    pass-kept proper′ passed =
-        let commits = abstract-commit (kept .proper) j refl in
+    pass-kept fits proper′ passed =
+        let commits = abstract-commit (kept .proper) j refl fits in
         record {
           proper = proper′;
           holds =
-              rule-commit (J .rule) got opening s s′ (kept .holds) n p i commits
+              grounded-commit (J .rule) accountCharges got ground opening charges-seen s s′ (kept .holds) n p i commits
               (J .at-commit s (kept .proper) n j) passed laid-put;
           parents = same-parents (commits .nobody-new) (commits .change .parent-kept) (kept .parents);
           whole = laid-whole;

@@ -4,9 +4,12 @@ use Prim.Native.Nat.{ℕ}
 use native.Mathlib.Omega.{arith}
 use mathlib.Core.Path.{_≡_, _∙_}
 use mathlib.Core.Logic.{inl}
+use mathlib.Core.Bool.{false}
 use mathlib.Core.List.{List}
+use Rattle.rules.specs.declared.Found.the-variants.{Nothing}
 use Rattle.rules.specs.Table.{parentOf}
 use Rattle.rules.specs.Ledger.{Ledger}
+use Rattle.rules.specs.Cause.{isCommitOutside}
 use Rattle.rules.specs.Step.{commitTable, committedUnder}
 use Rattle.rules.proofs.Sound.TableChanges.{change-keeps-sound}
 use Rattle.rules.proofs.Laws.Permitted.{Committable}
@@ -17,9 +20,12 @@ use Rattle.rules.proofs.Demand.Proper.{Proper}
 use Rattle.rules.proofs.Demand.AbstractionLaws.{alive-started, live-alive, read-account, account-read, abstract-tree}
 use Rattle.rules.proofs.Demand.Views.{was-alive, same-parent}
 use Rattle.rules.proofs.Demand.CommitTable.{entry-has-read, table-change, still-alive-other, read-joined, read-kept}
-use Rattle.rules.proofs.Demand.CommitCards.{commit-base-length, commit-shadow-length, commit-base-kept, commit-base-laid, commit-effect-kept, commit-effect-laid}
+use Rattle.rules.proofs.Demand.CommitCards.{commit-base-length, commit-shadow-length, commit-base-kept, commit-effect-kept}
+use Rattle.rules.proofs.Demand.CommitLaid.{commit-base-laid, commit-effect-laid}
 
-module _ {s : Ledger} (proper : Proper s) {n p : ℕ} (judged : Committable (s .table) n) (under : parentOf (s .table) n ≡ p) where
+module _
+    {s : Ledger} (proper : Proper s) {n p : ℕ} (judged : Committable (s .table) n) (under : parentOf (s .table) n ≡ p)
+    (fits : isCommitOutside (s .table) (s .base) n Nothing ≡ false) where
   -- the table after the commit
   abbrev table′ : List ℕ
   table′ = commitTable (s .table) n p
@@ -48,9 +54,9 @@ module _ {s : Ledger} (proper : Proper s) {n p : ℕ} (judged : Committable (s .
             (still-alive-other proper judged under X (x .after)) other;
         eff-laid = λ X k x e.
             let action = alive-started (s .table) X (x .before) in
-            rw e (commit-effect-laid proper judged under k (λ z. omega arith));
+            rw e (commit-effect-laid proper judged under fits k (λ z. omega arith));
         base-kept = commit-base-kept proper judged under;
-        base-laid = commit-base-laid proper judged under;
+        base-laid = commit-base-laid proper judged under fits;
       }
 
   pub abstract-commit : Commit (abstraction s) (abstraction (committedUnder s n p)) n p

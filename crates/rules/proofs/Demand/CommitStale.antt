@@ -6,7 +6,6 @@ use native.Mathlib.Nat.{le-of-eq}
 use mathlib.Core.Path.{_≡_, sym, _∙_}
 use mathlib.Core.Logic.{_⊎_, inl, inr, ⊎-elim, _≢_}
 use mathlib.Core.Bool.{true}
-use mathlib.Core.Option.{none}
 use mathlib.Core.List.{List}
 use borrow.Author.Tests.{eq-eqb}
 use Rattle.rules.specs.Card.{accountCount, accounts}
@@ -14,6 +13,7 @@ use Rattle.rules.specs.Table.{width, word, counter, parentOf, endTime, r
 use Rattle.rules.specs.Sound.{IsStarted}
 use Rattle.rules.specs.Ledger.{Ledger}
 use Rattle.rules.specs.Step.{commitTime, commitTable, committedUnder}
+use Rattle.rules.specs.Serial.Effect.{nothing}
 use Rattle.rules.proofs.Laws.Tests.{and-both}
 use Rattle.rules.proofs.Laws.Ranges.{any-at}
 use Rattle.rules.proofs.Laws.Sets.{account-within}
@@ -101,7 +101,7 @@ module _ {s : Ledger} (proper : Proper s) {n p : ℕ} (judged : Committable (s .
         }
 
   no-effect-or-stale :
-      (k : ℕ) → (effectOf s n k ≡ none) ⊎ ((X : ℕ) → Stays (abstraction s) (abstraction after) X → HasRead (abstraction s) X k → Stale after X p k)
+      (k : ℕ) → (effectOf s n k ≡ nothing) ⊎ ((X : ℕ) → Stays (abstraction s) (abstraction after) X → HasRead (abstraction s) X k → Stale after X p k)
   no-effect-or-stale k =
       by-write-set (s .table) n k
       (λ account written. inr (now-stale k account written))

@@ -6,7 +6,7 @@ use native.Mathlib.Omega.{arith}
 use mathlib.Core.Path.{_≡_, sym}
 use mathlib.Core.Logic.{_≢_}
 use mathlib.Core.List.{List}
-use Rattle.rules.specs.Table.{width, aborted, word, parentField, stateField, withState, readField, writeField, isLive}
+use Rattle.rules.specs.Table.{width, aborted, word, parentField, stateField, withState, readField, writeField, pendingField, isLive}
 use Rattle.rules.specs.Ledger.{Ledger, withTable}
 use Rattle.rules.specs.Step.{abortTable, abort}
 use Rattle.rules.proofs.Laws.Tests.{and-left}
@@ -32,6 +32,7 @@ states-keep field-kept =
     record {
       parents = λ m l. field-kept m parentField (omega arith) (λ z. omega arith);
       writes = λ m k l account. field-kept m (writeField k) (omega arith) (λ z. omega arith);
+      sums = λ m k l charge. field-kept m (pendingField k) (omega arith) (λ z. omega arith);
       reads = λ m k l account has. field-kept m (readField k) (omega arith) (λ z. omega arith);
     }
 

@@ -1,14 +1,17 @@
 -- What demand 3's proof asks of the rule by which commits are judged: the rule itself, that a commit which the engine lets
 -- pass may pass by it, and what it has to be told of each event. Assumes nothing.
-use Prim.Native.Nat.{ℕ}
+use Prim.Native.Nat.{ℕ, _<_}
 use mathlib.Core.Path.{_≡_}
+use mathlib.Core.Bool.{true}
 use mathlib.Core.List.{List}
+use lib.IntN.{_+ℤ_}
 use Rattle.rules.specs.declared.Found.the-variants.{Nothing}
-use Rattle.rules.specs.Card.{IsCard}
-use Rattle.rules.specs.Table.{aborted, parentOf, withState}
+use Rattle.rules.specs.Card.{firstCharge, IsCharge, IsCard}
+use Rattle.rules.specs.Amount.{isAmount, amountIn}
+use Rattle.rules.specs.Table.{aborted, parentOf, withState, pendingSum}
 use Rattle.rules.specs.Clash.{firstClash}
 use Rattle.rules.specs.Ledger.{Ledger, withTable}
-use Rattle.rules.specs.Step.{start, read, write, committedUnder, abort}
+use Rattle.rules.specs.Step.{start, read, write, add, committedUnder, abort}
 use Rattle.rules.proofs.Laws.Permitted.{Startable, Touchable, Committable}
 use Rattle.rules.proofs.Serial.Rule.{Rule}
 use Rattle.rules.proofs.Demand.Abstraction.{abstraction}
@@ -21,8 +24,11 @@ pub record JudgingRule : Type 1 where
   pub at-start : (s : Ledger) → Proper s → (p : ℕ) → Startable (s .table) p → rule .CalmFacts s (start s p .after)
   pub at-read : (s : Ledger) → Proper s → (n k : ℕ) → Touchable (s .table) n k → rule .CalmFacts s (read s n k .after)
   pub at-write :
-      (s : Ledger) → Proper s → (n k : ℕ) → Touchable (s .table) n k → (card : List ℕ) → IsCard card →
+      (s : Ledger) → Proper s → (n k : ℕ) → Touchable (s .table) n k → k < firstCharge → (card : List ℕ) → IsCard card →
       rule .CalmFacts s (write s n k card .after)
+  pub at-add :
+      (s : Ledger) → Proper s → (n k : ℕ) → Touchable (s .table) n k → IsCharge k → (card : List ℕ) →
+      isAmount (pendingSum (s .table) n k +ℤ amountIn card) ≡ true → rule .CalmFacts s (add s n k card .after)
   pub at-abort : (s : Ledger) → Proper s → (n : ℕ) → rule .CalmFacts s (abort s n .after)
   pub at-failed-commit :
       (s : Ledger) → Proper s → (n : ℕ) → Committable (s .table) n →

@@ -1,64 +1,37 @@
--- A read as demand 3's proof sees it: the account is in the reader's read set, nobody else has changed, and the reader's view
--- is the card that a look then shows. Assumes nothing.
+-- A read as demand 3's proof sees it: the account is in the reader's read set, and nobody else has changed. Assumes nothing.
 use Prim.Native.Nat.{ℕ, _+_, _<_}
 use native.Mathlib.Nat.{le-of-eq}
 use native.Mathlib.Omega.{arith}
 use native.Mathlib.Decide.{ℕ-discrete}
-use mathlib.Core.Path.{_≡_, sym, ap, _∙_}
-use mathlib.Core.Logic.{_⊎_, inl, inr}
-use mathlib.Core.Bool.{true, false, not, false≢true}
-use mathlib.Core.List.{List, []}
+use mathlib.Core.Path.{_≡_, refl, sym, ap}
+use mathlib.Core.Logic.{inl}
+use mathlib.Core.Bool.{true, not}
+use mathlib.Core.List.{List}
 use lib.Dec.{eqb}
 use borrow.Author.Tests.{ne-eqb}
-use Rattle.rules.specs.Card.{accountCount, cardAt}
-use Rattle.rules.specs.Table.{counter, started, stateField, stateOf, readField, readEntry, hasRead, writeField, isLiveChildOf, hasLiveChild, actions}
-use Rattle.rules.specs.Sound.{IsStarted}
-use Rattle.rules.specs.Event.{readBy}
-use Rattle.rules.specs.Nearest.{nearest}
-use Rattle.rules.specs.Look.{lookCause, cardPart, bytesOf, lookedCard}
-use Rattle.rules.specs.Ledger.{Ledger, withTable}
-use Rattle.rules.specs.Step.{readTable, read}
-use Rattle.rules.proofs.Laws.Tests.{test, cond-holds}
-use Rattle.rules.proofs.Laws.Ranges.{any-agree}
-use Rattle.rules.proofs.Laws.Allowed.{allowed-none}
+use Rattle.rules.specs.Card.{accountCount, isCharge}
+use Rattle.rules.specs.Table.{counter, stateField, readField, readEntry, hasRead, writeField, pendingField}
+use Rattle.rules.specs.Ledger.{Ledger}
+use Rattle.rules.specs.Step.{readTable, readAnswer, read}
+use Rattle.rules.specs.Serial.Told.{itRead, told}
+use Rattle.rules.proofs.Laws.Tests.{cond-holds}
 use Rattle.rules.proofs.Laws.Permitted.{Touchable}
-use Rattle.rules.proofs.Sound.Soundness.{tested}
 use Rattle.rules.proofs.Sound.TableChanges.{TableChange, live-uncommitted}
 use Rattle.rules.proofs.Sound.Reading.{read-keeps-field, read-keeps-row, read-entry, read-change}
-use Rattle.rules.proofs.Stores.Looking.{look-refused-as-read, look-given}
 use Rattle.rules.proofs.Serial.Events.{Read}
 use Rattle.rules.proofs.Serial.Stale.{Old}
-use Rattle.rules.proofs.Demand.Abstraction.{cardOf, viewOf, abstraction, Stale}
+use Rattle.rules.proofs.Demand.Abstraction.{abstraction, Stale}
 use Rattle.rules.proofs.Demand.Proper.{Proper}
-use Rattle.rules.proofs.Demand.AbstractionLaws.{alive-started, live-alive, account-read, view-account}
+use Rattle.rules.proofs.Demand.AbstractionLaws.{alive-started, live-alive, account-read}
 use Rattle.rules.proofs.Demand.Views.{RecordsKept, Keeps, keeps-still, keeps-old, was-alive, change-keeps-proper}
 
--- ---- a look shows the view
-
-abbrev pub lookCauseIn : Ledger → ℕ → ℕ → ℕ
-lookCauseIn s n k = lookCause (s .table) (s .base) (s .shadow) n k
-
-abbrev pub lookedIn : Ledger → ℕ → ℕ → List ℕ
-lookedIn s n k = lookedCard (s .table) (s .base) (s .shadow) n k
-
--- the bytes of the part that holds m's card
-part-bytes : (s : Ledger) (m k : ℕ) → bytesOf (s .base) (s .shadow) (cardPart m k) ≡ cardOf s m k
-unfolding cardOf cardAt
-part-bytes s m k = cases (test (eqb m 0))
-  where
-    cases : (eqb m 0 ≡ true) ⊎ (eqb m 0 ≡ false) → bytesOf (s .base) (s .shadow) (cardPart m k) ≡ cardOf s m k
-    cases (inl store) = rw store
-    cases (inr action) = rw action
-
-pub view-looked : (s : Ledger) (n k : ℕ) → k < accountCount → lookCauseIn s n k ≡ 0 → viewOf s n k ≡ lookedIn s n k
-view-looked s n k account given =
-    view-account s n k account
-    ∙ rw (look-given (s .table) (s .base) (s .shadow) n k given) (sym (part-bytes s (nearest (s .table) n k) k))
-
--- ---- the event
+-- its answer tells of a read, whatever the account's kind
+pub read-told : (w base : List ℕ) (n k : ℕ) → told (readAnswer w base n k) ≡ itRead
+unfolding readAnswer
+read-told w base n k = cond-holds (λ a. told a ≡ itRead) (isCharge k) (λ _. refl) (λ _. refl)
 
 module _ (s : Ledger) (proper : Proper s) (n k : ℕ) (permitted : Touchable (s .table) n k) where
-  open Touchable permitted using (own, alive, childless, account)
+  open Touchable permitted using (own, alive, account)
 
   abbrev before : List ℕ
   before = s .table
@@ -68,15 +41,6 @@ module _ (s : Ledger) (proper : Proper s) (n k : ℕ) (permitted : Touchable (s 
 
   change : TableChange before after n
   change = read-change before n k account (proper .sound)
-
-  proper-after : Proper (withTable s after)
-  proper-after = change-keeps-proper proper change
-
-  own-after : IsStarted after n
-  own-after = rw (change .sameStarted) own
-
-  state-kept : (m : ℕ) → stateOf after m ≡ stateOf before m
-  state-kept m = read-keeps-field before n k account m stateField (omega arith) (λ z. omega arith)
 
   -- a time that is there stays
   entry-kept : (m j : ℕ) → j < accountCount → hasRead before m j ≡ true → readEntry after m j ≡ readEntry before m j
@@ -92,6 +56,7 @@ module _ (s : Ledger) (proper : Proper s) (n k : ℕ) (permitted : Touchable (s 
       record {
         parents = λ m l. change .parents m (alive-started before m (l .0));
         writes = λ m j l inside. read-keeps-field before n k account m (writeField j) (omega arith) (λ z. omega arith);
+        sums = λ m j l charge. read-keeps-field before n k account m (pendingField j) (omega arith) (λ z. omega arith);
         reads = λ m j l. entry-kept m j;
       }
 
@@ -115,45 +80,14 @@ module _ (s : Ledger) (proper : Proper s) (n k : ℕ) (permitted : Touchable (s 
   unfolding read
   read-reads =
       record {
-        still = keeps-still s after read-keeps proper proper-after;
+        still = keeps-still s after read-keeps proper (change-keeps-proper proper change);
         nobody-new = was-alive change;
-        reader-live = live-alive after n own-after (rw (state-kept n) alive);
+        reader-live =
+            live-alive after n (rw (change .sameStarted) own)
+            (rw (read-keeps-field before n k account n stateField (omega arith) (λ z. omega arith)) alive);
         noted = inl (account-read after n k account entered);
       }
 
   pub read-old : Old (abstraction s) (abstraction (read s n k .after)) (Stale s) (Stale (read s n k .after))
   unfolding read
   read-old = keeps-old s after read-keeps records-kept
-
-  -- ---- RULES 3.3: what a look shows directly after the read
-
-  childless-after : hasLiveChild after n ≡ false
-  unfolding hasLiveChild actions
-  childless-after =
-      rw (change .sameStarted)
-      (any-agree (isLiveChildOf after n) (isLiveChildOf before n) 1 (started before)
-      (λ m h. rw (change .parents m (omega arith), state-kept m))
-      ∙ childless)
-
-  -- the read changes nothing for which a read is refused
-  look-allowed : lookCauseIn (withTable s after) n k ≡ 0
-  look-allowed =
-      look-refused-as-read after (s .base) (s .shadow) n k []
-      ∙ allowed-none after (s .base) (s .shadow) (readBy n k)
-      (record {
-        baseFits = proper .baseFits;
-        shadowFits = proper .shadowFits;
-        soundTest = tested after (proper-after .sound);
-        codeKnown = omega arith;
-        numberKnown = own-after .1;
-        named = λ _. own .0;
-        alive = λ _. rw (state-kept n) alive;
-        room = λ starts. absurd (false≢true starts);
-        accountKnown = λ _. account;
-        cardFits = λ writes. absurd (false≢true writes);
-        childless = λ _. childless-after;
-      })
-
-  pub read-shows : viewOf (read s n k .after) n k ≡ lookedIn (read s n k .after) n k
-  unfolding read
-  read-shows = view-looked (withTable s after) n k account look-allowed

@@ -4,14 +4,14 @@ use native.Mathlib.Omega.{arith}
 use mathlib.Core.Path.{_≡_, ap}
 use mathlib.Core.Logic.{_≢_}
 use mathlib.Core.Bool.{true, not}
-use mathlib.Core.Option.{none}
 use mathlib.Core.List.{List}
 use lib.Dec.{eqb}
 use borrow.Author.Tests.{eq-eqb}
-use Rattle.rules.specs.Table.{started, parentField, stateField, readField, writeField}
+use Rattle.rules.specs.Table.{started, parentField, stateField, readField, writeField, pendingField}
 use Rattle.rules.specs.Sound.{IsStarted}
 use Rattle.rules.specs.Ledger.{Ledger, withTable}
 use Rattle.rules.specs.Step.{startTable, start}
+use Rattle.rules.specs.Serial.Effect.{nothing}
 use Rattle.rules.proofs.Laws.Permitted.{Startable}
 use Rattle.rules.proofs.Sound.Starting.{start-keeps-row, start-started, start-state, start-write, start-keeps-sound}
 use Rattle.rules.proofs.Serial.Events.{Start}
@@ -47,6 +47,7 @@ module _ (s : Ledger) (proper : Proper s) (p : ℕ) (permitted : Startable (s .t
       record {
         parents = λ m l. live-row-kept m (l .0) parentField (omega arith);
         writes = λ m k l account. live-row-kept m (l .0) (writeField k) (omega arith);
+        sums = λ m k l charge. live-row-kept m (l .0) (pendingField k) (omega arith);
         reads = λ m k l account has. live-row-kept m (l .0) (readField k) (omega arith);
       }
 
@@ -70,7 +71,7 @@ module _ (s : Ledger) (proper : Proper s) (p : ℕ) (permitted : Startable (s .t
   next-alive =
       live-alive after next (omega (arith, last-start)) (eq-eqb _ _ (start-state before p (proper .sound .long) (permitted .room)))
 
-  next-no-effect : (k : ℕ) → effectOf (withTable s after) next k ≡ none
+  next-no-effect : (k : ℕ) → effectOf (withTable s after) next k ≡ nothing
   next-no-effect k =
       by-account k
       (λ account.

@@ -1,157 +1,145 @@
--- Demand 3: what the collector and the engine keep through every event, and so through every list of events, gives the
--- statement of specs/Serial/Demand.antt. Assumes nothing.
+-- Demand 3 and conservation: what the collector and the engine keep through every list of events gives the statements of
+-- specs/Serial/Demand.antt and specs/Serial/Conserved.antt. Assumes nothing.
 use Prim.Native.Nat.{ℕ, suc, _+_}
 use native.Mathlib.Nat.{zero-add, add-zero, add-suc, suc-add}
 use mathlib.Core.Path.{_≡_, refl, sym, ap, _∙_}
 use mathlib.Core.List.{List, [], _∷_}
-use lib.ListN.{length}
-use Rattle.rules.specs.Card.{IsCard, baseLength, shadowLength, basePlace, cardAt}
-use Rattle.rules.specs.Event.{Event}
-use Rattle.rules.specs.declared.Found.{Found}
-use Rattle.rules.specs.declared.Found.the-variants.{Nothing, At}
-use Rattle.rules.specs.Clash.{firstClash}
+use lib.ListN.{length, take, getD}
+use Rattle.rules.specs.Card.{baseLength, shadowLength, basePlace, cardAt}
+use Rattle.rules.specs.Event.{Event, startUnder}
 use Rattle.rules.specs.Ledger.{Ledger}
-use Rattle.rules.specs.Step.{Outcome, start, read, write, judged, abort, step}
+use Rattle.rules.specs.Step.{step}
 use Rattle.rules.specs.Run.{run}
-use Rattle.rules.specs.Serial.Told.{told}
-use Rattle.rules.specs.Serial.Collect.{Known, commitsAt, laidAll, stepped, collectOne, collectFrom, unknown, storeBlock}
+use Rattle.rules.specs.Serial.Collect.{collectFrom, unknown, storeBlock}
 use Rattle.rules.specs.Serial.Machine.{serial}
-use Rattle.rules.specs.Serial.Demand.{cardGiven, newOver, answersTo, Demand3}
+use Rattle.rules.specs.Serial.Demand.{cardGiven, newOver, answersTo, sumGiven, Demand3}
+use Rattle.rules.specs.Serial.Conserved.{Conserved}
 use Rattle.rules.proofs.Laws.Bytes.{store-by-cards}
-use Rattle.rules.proofs.Laws.Permitted.{Startable, Touchable, Committable, step-by-kind}
-use Rattle.rules.proofs.Serial.Invariant.{inv-opening}
+use Rattle.rules.proofs.Serial.Values.{AccountValue, accountValues}
+use Rattle.rules.proofs.Serial.Blocks.{after}
+use Rattle.rules.proofs.Serial.GroundedRule.{grounded-opening}
+use Rattle.rules.proofs.Serial.Shown.{shownBase, accountCharges, cardShown, sumShown, cardRead, card-shown}
 use Rattle.rules.proofs.Serial.Running.{Whole, OnlyChildren, SerialRun, block-runs}
 use Rattle.rules.proofs.Serial.Exact.{exact-acts}
 use Rattle.rules.proofs.Serial.Order.{in-order}
-use Rattle.rules.proofs.Demand.Proper.{Proper, new-proper, step-keeps-proper}
-use Rattle.rules.proofs.Demand.AbstractionLaws.{new-nobody-alive, card-of-store}
-use Rattle.rules.proofs.Demand.Reads.{lookedIn}
-use Rattle.rules.proofs.Demand.Drops.{abort-drops, fail-drops}
+use Rattle.rules.proofs.Serial.Conserving.{store-conserves}
+use Rattle.rules.proofs.Demand.Proper.{new-proper}
+use Rattle.rules.proofs.Demand.AbstractionLaws.{new-nobody-alive}
+use Rattle.rules.proofs.Demand.Looks.{seenWith, shownUnder, card-looked, sum-answered}
 use Rattle.rules.proofs.Demand.JudgingRule.{JudgingRule}
 use Rattle.rules.proofs.Demand.Backward.{backward}
-use Rattle.rules.proofs.Demand.Collected.{Kept, drop-kept, start-kept, read-kept, write-kept, pass-kept}
+use Rattle.rules.proofs.Demand.Collected.{Kept}
+use Rattle.rules.proofs.Demand.RunKeeps.{GivesAlong, run-keeps}
 
--- ---- one event
+-- ---- what each place of S was given
 
-module _
-    (J : JudgingRule) (got opening : ℕ → List ℕ) (i : ℕ) (e : Event) {s : Ledger} {c : Known} (kept : Kept J got opening s c) where
-  -- what is kept is kept after an outcome that is proper and after which a look shows what the place was given
-  KeptAfter : Outcome → Type 0
-  KeptAfter o =
-      Proper (o .after) → lookedIn (o .after) (e .number) (e .account) ≡ got i →
-      Kept J got opening (o .after) (collectOne i e (told (o .answer)) (commitsAt e (told (o .answer))) c)
+-- what the reader saw, by the answer and the look directly after
+seenAt : Ledger → List Event → ℕ → AccountValue
+seenAt s es i =
+    let e = getD es i (startUnder 0) in
+    seenWith (sumGiven (run s es .answers) i) (run s (take (suc i) es) .after) (e .number) (e .account)
 
-  starts : Startable (s .table) (e .number) → KeptAfter (start s (e .number))
-  unfolding KeptAfter start collectOne commitsAt stepped laidAll
-  starts permitted proper′ given = start-kept J got opening kept i (e .number) permitted proper′
+-- what the base showed of a charge account
+groundAt : Ledger → List Event → ℕ → AccountValue
+groundAt s es i = shownUnder (cardGiven s es i)
 
-  reads : Touchable (s .table) (e .number) (e .account) → KeptAfter (read s (e .number) (e .account))
-  unfolding KeptAfter read collectOne commitsAt stepped laidAll
-  reads = read-kept J got opening kept i (e .number) (e .account)
+module _ (s : Ledger) (es : List Event) (i : ℕ) where
+  card-given : cardRead (seenAt s es i) (groundAt s es i) ≡ cardGiven s es i
+  unfolding seenAt groundAt cardGiven
+  card-given =
+      let e = getD es i (startUnder 0) in
+      card-looked (run s (take (suc i) es) .after) (e .number) (e .account) (sumGiven (run s es .answers) i)
 
-  writes :
-      Touchable (s .table) (e .number) (e .account) → IsCard (e .card) →
-      KeptAfter (write s (e .number) (e .account) (e .card))
-  unfolding KeptAfter write collectOne commitsAt stepped laidAll
-  writes permitted card proper′ given =
-      write-kept J got opening kept i (e .number) (e .account) permitted (e .card) card proper′
+  sum-given : sumShown (seenAt s es i) ≡ sumGiven (run s es .answers) i
+  unfolding seenAt
+  sum-given =
+      let e = getD es i (startUnder 0) in
+      sum-answered (run s (take (suc i) es) .after) (e .number) (e .account) (sumGiven (run s es .answers) i)
 
-  judges :
-      Committable (s .table) (e .number) → (f : Found) → firstClash (s .table) (e .number) ≡ f →
-      KeptAfter (judged s (e .number) f)
-  unfolding KeptAfter judged collectOne commitsAt stepped laidAll
-  judges j Nothing clear proper′ given =
-      pass-kept J got opening kept i (e .number) j proper′ (J .passes s (kept .proper) (e .number) j clear)
-  judges j (At t k) clash proper′ given =
-      drop-kept J got opening kept i _ proper′
-      (fail-drops s (kept .proper) (e .number) j) (J .at-failed-commit s (kept .proper) (e .number) j)
-
-  aborts : KeptAfter (abort s (e .number))
-  unfolding KeptAfter abort collectOne commitsAt stepped laidAll
-  aborts proper′ given =
-      drop-kept J got opening kept i _ proper′
-      (abort-drops s (kept .proper) (e .number)) (J .at-abort s (kept .proper) (e .number))
-
-  step-keeps : KeptAfter (step s e)
-  unfolding KeptAfter collectOne commitsAt stepped laidAll
-  step-keeps = step-by-kind s e KeptAfter (λ _ _. kept) starts reads writes judges aborts
-
--- ---- a list of events
-
--- a look directly after each event, from place i on, shows what `got` has there
-Shows : (ℕ → List ℕ) → ℕ → Ledger → List Event → Type 0
-Shows got i s [] = Unit {0}
-Shows got i s (e ∷ es) =
-    (lookedIn (step s e .after) (e .number) (e .account) ≡ got i) × Shows got (suc i) (step s e .after) es
-
-run-keeps :
-    (J : JudgingRule) (got opening : ℕ → List ℕ) (i : ℕ) (es : List Event) {s : Ledger} {c : Known} →
-    Kept J got opening s c → Shows got i s es → Kept J got opening (run s es .after) (collectFrom i es (run s es .answers) c)
-unfolding run collectFrom Shows KeptAfter
-run-keeps J got opening i [] kept shown = kept
-run-keeps J got opening i (e ∷ es) {s} kept shown =
-    run-keeps J got opening (suc i) es
-    (step-keeps J got opening i e kept (step-keeps-proper s e (kept .proper)) (shown .0)) (shown .1)
-
-given-shows : (got : ℕ → List ℕ) (i : ℕ) (s : Ledger) (es : List Event) → ((j : ℕ) → got (i + j) ≡ cardGiven s es j) → Shows got i s es
-unfolding Shows cardGiven run
-given-shows got i s [] same = tt
-given-shows got i s (e ∷ es) same = (
-  sym (same 0) ∙ ap got (add-zero i),
-  given-shows got (suc i) (step s e .after) es (λ j. ap got (suc-add i j ∙ sym (add-suc i j)) ∙ same (suc j)),
+given-along :
+    (got ground : ℕ → AccountValue) (i : ℕ) (s : Ledger) (es : List Event) → ((j : ℕ) → got (i + j) ≡ seenAt s es j) →
+    ((j : ℕ) → ground (i + j) ≡ groundAt s es j) → GivesAlong got ground i s es
+unfolding GivesAlong seenAt groundAt cardGiven run
+given-along got ground i s [] seen below = tt
+given-along got ground i s (e ∷ es) seen below = (
+  sym (seen 0) ∙ ap got (add-zero i),
+  sym (below 0) ∙ ap ground (add-zero i),
+  given-along got ground (suc i) (step s e .after) es
+      (λ j. ap got (suc-add i j ∙ sym (add-suc i j)) ∙ seen (suc j))
+      (λ j. ap ground (suc-add i j ∙ sym (add-suc i j)) ∙ below (suc j)),
 )
 
--- ---- demand 3, under any judging rule
+-- ---- under any judging rule
 
 module _ (J : JudgingRule) (base shadow : List ℕ) (baseFits : length base ≡ baseLength) (shadowFits : length shadow ≡ shadowLength) where
-  abbrev openingCards : ℕ → List ℕ
-  openingCards k = cardAt base (basePlace k)
-
-  kept-at-first : (got : ℕ → List ℕ) → Kept J got openingCards (newOver base shadow) unknown
+  kept-at-first : (got ground : ℕ → AccountValue) → Kept J got ground (shownBase base) (newOver base shadow) unknown
   unfolding unknown Whole OnlyChildren
-  kept-at-first got =
+  kept-at-first got ground =
       record {
         proper = new-proper base shadow baseFits shadowFits;
-        holds = inv-opening new-nobody-alive (card-of-store (newOver base shadow)) refl;
+        holds =
+            grounded-opening (J .rule) accountCharges got ground (shownBase base) new-nobody-alive (λ k. refl) refl;
         parents = λ X l. absurd (new-nobody-alive X l);
         whole = λ n. tt;
         top = tt;
       }
 
   module _ (es : List Event) where
-    abbrev got : ℕ → List ℕ
-    got = cardGiven (newOver base shadow) es
+    abbrev got : ℕ → AccountValue
+    got = seenAt (newOver base shadow) es
+
+    abbrev ground : ℕ → AccountValue
+    ground = groundAt (newOver base shadow) es
 
     abbrev final : Ledger
     final = run (newOver base shadow) es .after
 
-    kept-at-last : Kept J got openingCards final (collectFrom 0 es (answersTo base shadow es) unknown)
+    kept-at-last : Kept J got ground (shownBase base) final (collectFrom 0 es (answersTo base shadow es) unknown)
     kept-at-last =
-        run-keeps J got openingCards 0 es (kept-at-first got)
-        (given-shows got 0 (newOver base shadow) es (λ j. ap got (zero-add j)))
+        run-keeps J got ground (shownBase base) 0 es (kept-at-first got ground)
+        (given-along got ground 0 (newOver base shadow) es (λ j. ap got (zero-add j)) (λ j. ap ground (zero-add j)))
 
-    block-ran : SerialRun got (storeBlock es (answersTo base shadow es)) base (serial es (answersTo base shadow es) base)
+    block-ran : SerialRun got ground (storeBlock es (answersTo base shadow es)) base (serial es (answersTo base shadow es) base)
     unfolding serial storeBlock
     block-ran =
-        block-runs got _ (kept-at-last .whole 0) (kept-at-last .top) base baseFits (kept-at-last .holds .store .fine)
+        block-runs got ground _ (kept-at-last .whole 0) (kept-at-last .top) base baseFits
+        (kept-at-last .holds .grounded .store) (kept-at-last .holds .holds .store .fine)
 
-    -- the cards that the serial run leaves are those that stand after S
+    -- what the store's block leaves is what the base store shows after S
+    block-leaves :
+        (k : ℕ) → after accountValues (storeBlock es (answersTo base shadow es)) (shownBase base) k ≡ shownBase (final .base) k
+    unfolding storeBlock
+    block-leaves = kept-at-last .holds .holds .store .leaves
+
     same-cards :
         (k : ℕ) → cardAt (serial es (answersTo base shadow es) base .base) (basePlace k) ≡ cardAt (final .base) (basePlace k)
-    unfolding storeBlock
-    same-cards k = block-ran .leaves k ∙ kept-at-last .holds .store .leaves k ∙ card-of-store final k
+    same-cards k =
+        sym (card-shown k _) ∙ ap cardShown (block-ran .leaves k ∙ block-leaves k) ∙ card-shown k _
 
     demand3-under : Demand3 base shadow es
     demand3-under =
         record {
-          reads = block-ran .reads;
+          reads = λ g m. block-ran .reads g m .card ∙ card-given (newOver base shadow) es (g .place);
+          amounts = λ g m. block-ran .reads g m .amount ∙ sum-given (newOver base shadow) es (g .place);
           store = store-by-cards _ _ (block-ran .long) (kept-at-last .proper .baseFits) (λ k _. same-cards k);
           exact = exact-acts es (answersTo base shadow es);
           order = in-order es (answersTo base shadow es);
         }
 
--- ---- demand 3
+    conserved-under : Conserved base shadow es
+    unfolding storeBlock
+    conserved-under =
+        record {
+          conserves = λ k charge.
+              store-conserves es (answersTo base shadow es) (kept-at-last .whole 0) charge base (final .base) (block-leaves k);
+        }
+
+-- ---- under the engine's
 
 pub demand3 :
     (base shadow : List ℕ) → length base ≡ baseLength → length shadow ≡ shadowLength → (es : List Event) → Demand3 base shadow es
 demand3 = demand3-under backward
+
+pub conserved :
+    (base shadow : List ℕ) → length base ≡ baseLength → length shadow ≡ shadowLength → (es : List Event) → Conserved base shadow es
+conserved = conserved-under backward

@@ -6,30 +6,34 @@ use native.Mathlib.Omega.{arith}
 use mathlib.Core.Path.{_≡_, refl, sym, ap, _∙_}
 use mathlib.Core.Bool.{true}
 use mathlib.Core.List.{List}
-use Rattle.rules.specs.Card.{accountCount, shadowPlace, cardAt}
-use Rattle.rules.specs.Table.{width, word, started, parentField, parentOf, stateField, endField, readEntry, hasRead, readTime, writeField, writeEntry, hasWrites, isCommitted, hasEnd, isChildOf, isRecordOf}
+use Rattle.rules.specs.Card.{accountCount, firstCharge, IsCharge, shadowPlace, cardAt}
+use Rattle.rules.specs.Table.{width, word, started, parentField, parentOf, stateField, endField, readEntry, hasRead, readTime, writeField, writeEntry, hasWrites, pendingWord, isCommitted, hasEnd, isChildOf, isRecordOf}
 use Rattle.rules.specs.Sound.{IsStarted}
 use Rattle.rules.specs.Ledger.{Ledger, withTable}
 use Rattle.rules.proofs.Laws.Tests.{and-left, and-right}
 use Rattle.rules.proofs.Sound.TableChanges.{TableChange, change-keeps-sound, writes-agree}
 use Rattle.rules.proofs.Serial.Events.{Still, lays-nothing}
 use Rattle.rules.proofs.Serial.Stale.{Old}
+use Rattle.rules.proofs.Serial.Settling.{is-charge, below-charges}
 use Rattle.rules.proofs.Laws.Cards.{Fits}
 use Rattle.rules.proofs.Stores.Copies.{shadow-line, line-fits}
-use Rattle.rules.proofs.Demand.Abstraction.{isAlive, effectOf, hasReadAccount, abstraction, Stale}
+use Rattle.rules.proofs.Demand.Abstraction.{isAlive, writtenEffect, effectOf, hasReadAccount, abstraction, Stale}
 use Rattle.rules.proofs.Demand.Proper.{Proper}
-use Rattle.rules.proofs.Demand.AbstractionLaws.{alive-started, alive-live, live-alive, read-account, read-entered, account-read, effect-account, effect-no-account, card-of-store, by-account, abstract-tree}
+use Rattle.rules.proofs.Demand.AbstractionLaws.{alive-started, alive-live, live-alive, read-account, read-entered, account-read, effect-account, effect-no-account, by-account, by-charge, abstract-tree}
 
 -- ---- effects
 
--- an action with the same write entry and the same card has the same effect
+-- an action with the same write entry and the same card or, of a charge account, the same pending sum has the same effect
 pub effect-kept :
     (s t : Ledger) (X k : ℕ) → (k < accountCount → writeEntry (t .table) X k ≡ writeEntry (s .table) X k) →
-    (k < accountCount → cardAt (t .shadow) (shadowPlace X k) ≡ cardAt (s .shadow) (shadowPlace X k)) →
+    (IsCharge k → pendingWord (t .table) X k ≡ pendingWord (s .table) X k) →
+    (k < firstCharge → cardAt (t .shadow) (shadowPlace X k) ≡ cardAt (s .shadow) (shadowPlace X k)) →
     effectOf t X k ≡ effectOf s X k
-effect-kept s t X k entry card =
+unfolding writtenEffect
+effect-kept s t X k entry sum card =
     by-account k
-    (λ account. rw (effect-account t X k account, effect-account s X k account, entry account, card account))
+    (λ account. rw (effect-account t X k account, effect-account s X k account, entry account)
+    (by-charge account (λ below. rw (below-charges below, card below)) (λ charge. rw (is-charge charge, sum charge))))
     (λ beyond. effect-no-account t X k beyond ∙ sym (effect-no-account s X k beyond))
 
 -- ---- stale reads
@@ -87,11 +91,12 @@ shadow-fits {s} proper X k begun account =
 abbrev pub LivesOn : List ℕ → List ℕ → ℕ → Type 0
 LivesOn w v m = (isAlive w m ≡ true) × (isAlive v m ≡ true)
 
--- The table v keeps of each action that lives on the parent, the writes and the reads. For the rest, reads may have been
+-- The table v keeps of each action that lives on the parent, the writes, the sums and the reads. For the rest, reads may have been
 -- entered, live actions may have ended and one may have begun.
 pub record Keeps (w v : List ℕ) : Type 0 where
   pub parents : (m : ℕ) → LivesOn w v m → parentOf v m ≡ parentOf w m
   pub writes : (m k : ℕ) → LivesOn w v m → k < accountCount → writeEntry v m k ≡ writeEntry w m k
+  pub sums : (m k : ℕ) → LivesOn w v m → IsCharge k → pendingWord v m k ≡ pendingWord w m k
   pub reads : (m k : ℕ) → LivesOn w v m → k < accountCount → hasRead w m k ≡ true → readEntry v m k ≡ readEntry w m k
 
 module _ (s : Ledger) (v : List ℕ) (kept : Keeps (s .table) v) where
@@ -108,8 +113,9 @@ module _ (s : Ledger) (v : List ℕ) (kept : Keeps (s .table) v) where
       lays-nothing (abstract-tree s proper) (abstract-tree (withTable s v) proper′)
       (λ X x. kept .parents X (x .before, x .after))
       (λ X k x. read-kept X k (x .before, x .after))
-      (λ X k x. effect-kept s (withTable s v) X k (kept .writes X k (x .before, x .after)) (λ _. refl))
-      (λ k. card-of-store (withTable s v) k ∙ sym (card-of-store s k))
+      (λ X k x.
+      effect-kept s (withTable s v) X k (kept .writes X k (x .before, x .after)) (kept .sums X k (x .before, x .after)) (λ _. refl))
+      (λ k. refl)
 
   -- no read that lives on is later than it was
   pub keeps-times :

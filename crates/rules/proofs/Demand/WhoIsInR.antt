@@ -1,21 +1,24 @@
 -- R in plain words: the engine's events do to who is live what their answers tell, so that for every list of events the
 -- statement of specs/Serial/Starts.antt holds. Assumes nothing.
-use Prim.Native.Nat.{ℕ}
+use Prim.Native.Nat.{ℕ, _<_}
 use native.Mathlib.Nat.{sub-zero}
 use native.Mathlib.Omega.{arith}
 use mathlib.Core.Path.{_≡_, refl}
 use mathlib.Core.Logic.{inl, inr, ⊎-elim, _≢_}
-use mathlib.Core.Bool.{true}
+use mathlib.Core.Bool.{true, false}
 use mathlib.Core.List.{List, [], _∷_}
+use lib.IntN.{_+ℤ_}
 use lib.ListN.{length}
 use Rattle.rules.specs.declared.Answer.the-variants.{Refused}
 use Rattle.rules.specs.declared.Found.{Found}
 use Rattle.rules.specs.declared.Found.the-variants.{Nothing, At}
-use Rattle.rules.specs.Card.{IsCard, baseLength, shadowLength}
-use Rattle.rules.specs.Table.{stateField, parentOf}
+use Rattle.rules.specs.Card.{firstCharge, IsCharge, IsCard, baseLength, shadowLength}
+use Rattle.rules.specs.Amount.{isAmount, amountIn}
+use Rattle.rules.specs.Table.{stateField, parentOf, pendingSum}
 use Rattle.rules.specs.Event.{Event}
+use Rattle.rules.specs.Cause.{isCommitOutside}
 use Rattle.rules.specs.Ledger.{Ledger}
-use Rattle.rules.specs.Step.{commitTable, committedUnder, Outcome, start, read, write, judged, abort, step}
+use Rattle.rules.specs.Step.{commitTable, committedUnder, Outcome, start, read, write, add, judged, abort, step}
 use Rattle.rules.specs.Run.{run}
 use Rattle.rules.specs.Serial.Told.{told}
 use Rattle.rules.specs.Serial.Demand.{newOver, answersTo}
@@ -31,15 +34,19 @@ use Rattle.rules.proofs.Demand.Abstraction.{isAlive, abstraction}
 use Rattle.rules.proofs.Demand.Proper.{Proper, new-proper, step-keeps-proper}
 use Rattle.rules.proofs.Demand.AbstractionLaws.{new-nobody-alive, alive-started, alive-live, live-alive, abstract-tree}
 use Rattle.rules.proofs.Demand.Starts.{start-starts}
-use Rattle.rules.proofs.Demand.Reads.{read-reads}
-use Rattle.rules.proofs.Demand.Writes.{abstract-write}
+use Rattle.rules.proofs.Demand.Reads.{read-told, read-reads}
+use Rattle.rules.proofs.Demand.Entering.{entering-writes}
+use Rattle.rules.proofs.Demand.Writes.{write-enters}
+use Rattle.rules.proofs.Demand.Adds.{add-enters}
 use Rattle.rules.proofs.Demand.Drops.{abort-drops, fail-drops}
 use Rattle.rules.proofs.Demand.CommitTable.{table-change, still-alive-other}
 use Rattle.rules.proofs.Demand.CommitChange.{abstract-commit}
 
 -- ---- a commit that passes
 
-module _ {s : Ledger} (proper : Proper s) {n : ℕ} (j : Committable (s .table) n) where
+module _
+    {s : Ledger} (proper : Proper s) {n : ℕ} (j : Committable (s .table) n)
+    (fits : isCommitOutside (s .table) (s .base) n Nothing ≡ false) where
   abbrev p : ℕ
   p = parentOf (s .table) n
 
@@ -53,7 +60,7 @@ module _ {s : Ledger} (proper : Proper s) {n : ℕ} (j : Committable (s .table) 
   commit-ends : Ends (abstraction s) (abstraction (committedUnder s n p)) n
   unfolding committedUnder
   commit-ends =
-      let c = abstract-commit proper j refl in
+      let c = abstract-commit proper j refl fits in
       let l = c .committer-live in
       record {
         was-live = l;
@@ -89,19 +96,33 @@ module _ (s : Ledger) (proper : Proper s) (e : Event) where
   unfolding AsTold read
   reads permitted =
       let r = read-reads s proper (e .number) (e .account) permitted in
-      change-tells (r .still) (r .nobody-new, r .reader-live)
+      rw (read-told (s .table) (s .base) (e .number) (e .account)) (change-tells (r .still) (r .nobody-new, r .reader-live))
 
   writes :
-      Touchable (s .table) (e .number) (e .account) → IsCard (e .card) → AsTold (write s (e .number) (e .account) (e .card))
+      Touchable (s .table) (e .number) (e .account) → IsCard (e .card) → e .account < firstCharge →
+      AsTold (write s (e .number) (e .account) (e .card))
   unfolding AsTold write
-  writes permitted card =
-      let w = abstract-write s proper (e .number) (e .account) permitted (e .card) card in
+  writes permitted card below =
+      let entering = write-enters s proper (e .number) (e .account) permitted below (e .card) card in
+      let w = entering-writes proper permitted entering in
       change-tells (w .change) (w .nobody-new, w .writer-live)
 
-  judges : Committable (s .table) (e .number) → (f : Found) → AsTold (judged s (e .number) f)
+  joins :
+      Touchable (s .table) (e .number) (e .account) → IsCharge (e .account) →
+      isAmount (pendingSum (s .table) (e .number) (e .account) +ℤ amountIn (e .card)) ≡ true →
+      AsTold (add s (e .number) (e .account) (e .card))
+  unfolding AsTold add
+  joins permitted charge fits =
+      let entering = add-enters s proper (e .number) (e .account) permitted charge (e .card) fits in
+      let w = entering-writes proper permitted entering in
+      change-tells (w .change) (w .nobody-new, w .writer-live)
+
+  judges :
+      Committable (s .table) (e .number) → (f : Found) → isCommitOutside (s .table) (s .base) (e .number) f ≡ false →
+      AsTold (judged s (e .number) f)
   unfolding AsTold judged
-  judges j Nothing = change-tells (abstract-commit proper j refl .change) (commit-ends proper j)
-  judges j (At t k) = let d = fail-drops s proper (e .number) j in change-tells (d .still) (d .nobody-new)
+  judges j Nothing fits = change-tells (abstract-commit proper j refl fits .change) (commit-ends proper j fits)
+  judges j (At t k) fits = let d = fail-drops s proper (e .number) j in change-tells (d .still) (d .nobody-new)
 
   aborts : AsTold (abort s (e .number))
   unfolding AsTold abort
@@ -109,7 +130,9 @@ module _ (s : Ledger) (proper : Proper s) (e : Event) where
 
   event-tells : Tells (abstraction s) (abstraction (step s e .after)) e (told (step s e .answer))
   unfolding AsTold
-  event-tells = step-by-kind s e AsTold refused starts reads writes (λ j f _. judges j f) aborts
+  event-tells =
+      step-by-kind s e AsTold refused starts (λ permitted _. reads permitted) writes (λ j f _. judges j f)
+      (λ permitted _. joins permitted) aborts
 
 -- ---- a list of events
 

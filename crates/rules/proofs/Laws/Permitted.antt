@@ -2,22 +2,28 @@
 use Prim.Native.Nat.{ℕ, _≤_, _<_}
 use native.Mathlib.Omega.{arith}
 use mathlib.Core.Path.{_≡_, refl}
-use mathlib.Core.Logic.{_≢_}
-use mathlib.Core.Bool.{true, false, _||_}
+use mathlib.Core.Logic.{⊎-elim, _≢_}
+use mathlib.Core.Bool.{Bool, true, false, not, _&&_, _||_}
 use mathlib.Core.List.{List}
-use borrow.Author.Tests.{eq-eqb}
+use lib.IntN.{_+ℤ_}
+use borrow.Author.Tests.{eqb-true, eq-eqb}
 use Rattle.rules.specs.declared.Answer.the-variants.{Refused}
 use Rattle.rules.specs.declared.Found.{Found}
-use Rattle.rules.specs.Card.{accountCount, IsCard}
-use Rattle.rules.specs.Table.{mostActions, started, parentOf, isLive, isLiveChildOf, hasLiveChild, actions}
+use Rattle.rules.specs.declared.Found.the-variants.{Nothing}
+use Rattle.rules.specs.Card.{accountCount, firstCharge, chargeCount, isCharge, chargeAccounts, IsCharge, IsCard}
+use Rattle.rules.specs.Amount.{isAmount, amountIn}
+use Rattle.rules.specs.Table.{mostActions, started, parentOf, hasWritten, pendingSum, isLive, isLiveChildOf, hasLiveChild, actions}
 use Rattle.rules.specs.Sound.{IsStarted}
-use Rattle.rules.specs.Event.{Event, isStart, isRead, isWrite, isCommit}
+use Rattle.rules.specs.Event.{Event, commitCode, addCode, isStart, isRead, isWrite, isCommit, isAdd}
 use Rattle.rules.specs.Ledger.{Ledger}
+use Rattle.rules.specs.Nearest.{readSum}
 use Rattle.rules.specs.Clash.{firstClash}
-use Rattle.rules.specs.Step.{Outcome, start, read, write, judged, commit, abort, step}
-use Rattle.rules.proofs.Laws.Tests.{and-both, not-both, or-inl, or-inr}
+use Rattle.rules.specs.Cause.{commitSum, isCommitOutside, isReadOutside, inRead, inAdd, inCommit, sumsOf, areOutside}
+use Rattle.rules.specs.Step.{Outcome, start, read, write, judged, commit, add, abort, step}
+use Rattle.rules.proofs.Laws.Tests.{and-both, not-both, or-cases, or-inl, or-inr, not-fails, and-fails, leb-holds, leb-fails}
 use Rattle.rules.proofs.Laws.Ranges.{not-any-at}
-use Rattle.rules.proofs.Laws.EventCases.{causeIn, AllowedIn, step-by-cause, act-by-kind, read-no-start, write-no-start, commit-no-start}
+use Rattle.rules.proofs.Laws.Sets.{charge-within}
+use Rattle.rules.proofs.Laws.EventCases.{causeIn, AllowedIn, step-by-cause, act-by-kind, read-no-start, write-no-start, commit-no-start, add-no-start}
 
 -- an action may start under p: p is the store or live, and there is a number left
 pub record Startable (w : List ℕ) (p : ℕ) : Type 0 where
@@ -25,7 +31,7 @@ pub record Startable (w : List ℕ) (p : ℕ) : Type 0 where
   pub alive : 1 ≤ p → isLive w p ≡ true
   pub room : started w < mostActions
 
--- n may read and write account k: it is live and has no live child
+-- n may read account k, and write it or add to it: it is live and has no live child
 pub record Touchable (w : List ℕ) (n k : ℕ) : Type 0 where
   pub own : IsStarted w n
   pub alive : isLive w n ≡ true
@@ -40,23 +46,37 @@ pub record Committable (w : List ℕ) (n : ℕ) : Type 0 where
 
 -- ---- what an event that isn't refused permits
 
+sums-of-read : (e : Event) → isRead e ≡ true → sumsOf e ≡ inRead
+sums-of-read e is = rw is
+
+sums-of-add : (e : Event) → isAdd e ≡ true → sumsOf e ≡ inAdd
+sums-of-add e is = rw (eqb-true (e .code) addCode is)
+
+sums-of-commit : (e : Event) → isCommit e ≡ true → sumsOf e ≡ inCommit
+sums-of-commit e is = rw (eqb-true (e .code) commitCode is)
+
 module _ {s : Ledger} {e : Event} (a : AllowedIn s e) where
   start-permitted : isStart e ≡ true → Startable (s .table) (e .number)
-  start-permitted is = record { known = a .numberKnown; alive = a .alive; room = a .room is }
+  start-permitted is = record { known = a .early .numberKnown; alive = a .early .alive; room = a .early .room is }
 
   named-started : isStart e ≡ false → IsStarted (s .table) (e .number)
-  named-started other = (a .named other, a .numberKnown)
+  named-started other = (a .early .named other, a .early .numberKnown)
 
   named-alive : isStart e ≡ false → isLive (s .table) (e .number) ≡ true
-  named-alive other = a .alive (a .named other)
+  named-alive other = a .early .alive (a .early .named other)
 
-  touch-permitted : isStart e ≡ false → (isRead e || isWrite e) ≡ true → Touchable (s .table) (e .number) (e .account)
+  -- a read, a write or an add
+  touch-permitted : isStart e ≡ false → (isRead e || isWrite e || isAdd e) ≡ true → Touchable (s .table) (e .number) (e .account)
   touch-permitted other used =
       record {
         own = named-started other;
         alive = named-alive other;
-        childless = a .childless (or-inl (isCommit e) used);
-        account = a .accountKnown used;
+        childless =
+            ⊎-elim
+            (λ touches. a .early .childless (or-inl (isAdd e) (or-inl (isCommit e) touches)))
+            (λ adds. a .early .childless (or-inr (isRead e || isWrite e || isCommit e) adds))
+            (or-cases (isRead e || isWrite e) (isAdd e) used);
+        account = a .early .accountKnown used;
       }
 
   commit-permitted : isCommit e ≡ true → Committable (s .table) (e .number)
@@ -65,27 +85,74 @@ module _ {s : Ledger} {e : Event} (a : AllowedIn s e) where
       record {
         own = named-started other;
         alive = named-alive other;
-        childless = a .childless (or-inr (isRead e || isWrite e) is);
+        childless = a .early .childless (or-inl (isAdd e) (or-inr (isRead e || isWrite e) is));
       }
+
+  -- the sums that it makes, by its kind
+  pub read-fits : isRead e ≡ true → isReadOutside (s .table) (s .base) (e .number) (e .account) ≡ false
+  unfolding areOutside
+  read-fits is = rw (sums-of-read e is) at (a .sumsFit)
+
+  add-fits : isAdd e ≡ true → isAmount (pendingSum (s .table) (e .number) (e .account) +ℤ amountIn (e .card)) ≡ true
+  unfolding areOutside
+  add-fits is = not-fails _ .0 (rw (sums-of-add e is) at (a .sumsFit))
+
+  commit-fits : isCommit e ≡ true → isCommitOutside (s .table) (s .base) (e .number) (firstClash (s .table) (e .number)) ≡ false
+  unfolding areOutside
+  commit-fits is = rw (sums-of-commit e is) at (a .sumsFit)
+
+  write-below : isWrite e ≡ true → e .account < firstCharge
+  write-below is = leb-fails firstCharge (e .account) .0 (a .early .noCardOnCharge is)
+
+  add-charge : isAdd e ≡ true → IsCharge (e .account)
+  add-charge is = (leb-holds firstCharge (e .account) .0 (a .early .chargeAdded is), a .early .accountKnown (or-inr (isRead e || isWrite e) is))
 
 -- What holds of a refused event, and of an event of each kind where it is permitted, holds of the event.
 module _ (s : Ledger) (e : Event) (P : Outcome → Type 0) where
   pub step-by-kind :
       P (record { answer = Refused (causeIn s e); after = s }) →
       (Startable (s .table) (e .number) → P (start s (e .number))) →
-      (Touchable (s .table) (e .number) (e .account) → P (read s (e .number) (e .account))) →
-      (Touchable (s .table) (e .number) (e .account) → IsCard (e .card) → P (write s (e .number) (e .account) (e .card))) →
-      (Committable (s .table) (e .number) → (f : Found) → firstClash (s .table) (e .number) ≡ f → P (judged s (e .number) f)) →
+      (Touchable (s .table) (e .number) (e .account) → isReadOutside (s .table) (s .base) (e .number) (e .account) ≡ false →
+      P (read s (e .number) (e .account))) →
+      (Touchable (s .table) (e .number) (e .account) → IsCard (e .card) → e .account < firstCharge →
+      P (write s (e .number) (e .account) (e .card))) →
+      (Committable (s .table) (e .number) → (f : Found) → firstClash (s .table) (e .number) ≡ f →
+      isCommitOutside (s .table) (s .base) (e .number) f ≡ false → P (judged s (e .number) f)) →
+      (Touchable (s .table) (e .number) (e .account) → IsCard (e .card) → IsCharge (e .account) →
+      isAmount (pendingSum (s .table) (e .number) (e .account) +ℤ amountIn (e .card)) ≡ true →
+      P (add s (e .number) (e .account) (e .card))) →
       P (abort s (e .number)) → P (step s e)
   unfolding commit
-  step-by-kind refused starts reads writes judges aborts =
+  step-by-kind refused starts reads writes judges adds aborts =
       step-by-cause s e P refused
       (λ a. act-by-kind s e P
       (λ is. starts (start-permitted a is))
-      (λ is. reads (touch-permitted a (read-no-start e is) (or-inl (isWrite e) is)))
-      (λ is. writes (touch-permitted a (write-no-start e is) (or-inr (isRead e) is)) (a .cardFits is))
-      (λ is. judges (commit-permitted a is) (firstClash (s .table) (e .number)) refl)
+      (λ is. reads (touch-permitted a (read-no-start e is) (or-inl (isAdd e) (or-inl (isWrite e) is))) (read-fits a is))
+      (λ is.
+      writes (touch-permitted a (write-no-start e is) (or-inl (isAdd e) (or-inr (isRead e) is)))
+      (a .early .cardFits (or-inl (isAdd e) is)) (write-below a is))
+      (λ is. judges (commit-permitted a is) (firstClash (s .table) (e .number)) refl (commit-fits a is))
+      (λ is.
+      adds (touch-permitted a (add-no-start e is) (or-inr (isRead e || isWrite e) is))
+      (a .early .cardFits (or-inr (isWrite e) is)) (add-charge a is) (add-fits a is))
       (λ _. aborts))
+
+-- ---- RULES 8.1: sums that aren't outside 64 signed bits
+
+module _ (w base : List ℕ) (n : ℕ) where
+  pub read-sum-fits : (k : ℕ) → isReadOutside w base n k ≡ false → isCharge k ≡ true → isAmount (readSum w base n k) ≡ true
+  unfolding isReadOutside
+  read-sum-fits k fits charge = not-fails _ .0 (and-fails (isCharge k) _ .0 fits charge)
+
+  -- of a commit that passes: each charge account in the write set
+  pub commit-sum-fits :
+      isCommitOutside w base n Nothing ≡ false →
+      (k : ℕ) → IsCharge k → hasWritten w n k ≡ true → isAmount (commitSum w base n k) ≡ true
+  unfolding isCommitOutside chargeAccounts
+  commit-sum-fits fits k charge written =
+      let outside : ℕ → Bool = λ j. hasWritten w n j && not (isAmount (commitSum w base n j)) in
+      let here = not-any-at outside firstCharge chargeCount k fits (charge-within charge) in
+      not-fails _ .0 (and-fails (hasWritten w n k) _ .0 here written)
 
 -- ---- an action without a live child
 

@@ -7,7 +7,7 @@ use mathlib.Core.Logic.{_≢_}
 use mathlib.Core.Bool.{Bool, true, false, cond, true≢false}
 use mathlib.Core.List.{List}
 use Rattle.rules.specs.declared.Version.{Version}
-use Rattle.rules.specs.Table.{mostActions, started, parentOf, hasWritten}
+use Rattle.rules.specs.Table.{mostActions, started, parentOf, hasCard}
 use Rattle.rules.specs.Nearest.{nearest, movesUp, version, climbed, IsNearest}
 use Rattle.rules.specs.Sound.{Sound}
 use Rattle.rules.proofs.Laws.Tests.{cond-holds}
@@ -18,32 +18,32 @@ module _ (w : List ℕ) (k : ℕ) where
   unfolding movesUp
   movesUp-store = walk-store _ _ _ mostActions
 
-  pub movesUp-step : (n : ℕ) → n ≢ 0 → Climbs w n → movesUp w n k ≡ cond (hasWritten w n k) 0 (suc (movesUp w (parentOf w n) k))
+  pub movesUp-step : (n : ℕ) → n ≢ 0 → Climbs w n → movesUp w n k ≡ cond (hasCard w n k) 0 (suc (movesUp w (parentOf w n) k))
   unfolding movesUp
   movesUp-step n = walk-step _ _ _ mostActions n
 
   pub movesUp-at-most : (n : ℕ) → movesUp w n k ≤ mostActions
   unfolding movesUp
   movesUp-at-most =
-      walk-counts _ _ (λ m above. cond-holds (λ x. x ≤ suc above) (hasWritten w m k) (λ _. omega arith) (λ _. omega arith))
+      walk-counts _ _ (λ m above. cond-holds (λ x. x ≤ suc above) (hasCard w m k) (λ _. omega arith) (λ _. omega arith))
       mostActions
 
-  -- the version seen from an action that has written the account, and from one that has not
-  pub version-own : (n : ℕ) → n ≢ 0 → Climbs w n → hasWritten w n k ≡ true → version w n k ≡ record { holder = n; moves = 0 }
+  -- the version seen from an action that has a card of its own for the account, and from one that has none
+  pub version-own : (n : ℕ) → n ≢ 0 → Climbs w n → hasCard w n k ≡ true → version w n k ≡ record { holder = n; moves = 0 }
   version-own n ne up own = rw (nearest-step w n k ne up, movesUp-step n ne up, own)
 
   pub version-above :
-      (n : ℕ) → n ≢ 0 → Climbs w n → hasWritten w n k ≡ false →
+      (n : ℕ) → n ≢ 0 → Climbs w n → hasCard w n k ≡ false →
       version w n k ≡ record { holder = nearest w (parentOf w n) k; moves = suc (movesUp w (parentOf w n) k) }
-  version-above n ne up unwritten = rw (nearest-step w n k ne up, movesUp-step n ne up, unwritten)
+  version-above n ne up without = rw (nearest-step w n k ne up, movesUp-step n ne up, without)
 
   -- What holds of the store's version, of an action's own, and of the parent's one move further up where it holds of the
   -- parent's, holds of every version.
   version-holds :
       (P : ℕ → Version → Type 0) →
       P 0 (record { holder = 0; moves = 0 }) →
-      ((n : ℕ) → hasWritten w n k ≡ true → P n (record { holder = n; moves = 0 })) →
-      ((n : ℕ) → n ≢ 0 → Climbs w n → hasWritten w n k ≡ false → (v : Version) → P (parentOf w n) v →
+      ((n : ℕ) → hasCard w n k ≡ true → P n (record { holder = n; moves = 0 })) →
+      ((n : ℕ) → n ≢ 0 → Climbs w n → hasCard w n k ≡ false → (v : Version) → P (parentOf w n) v →
       P n (record { holder = v .holder; moves = suc (v .moves) })) →
       (n : ℕ) → Climbs w n → P n (version w n k)
   version-holds P store own above = climb-holds w (λ n. P n (version w n k)) at-store action
@@ -52,9 +52,9 @@ module _ (w : List ℕ) (k : ℕ) where
       at-store = rw (nearest-store w k, movesUp-store) store
 
       action : (n : ℕ) → n ≢ 0 → Climbs w n → P (parentOf w n) (version w (parentOf w n) k) → P n (version w n k)
-      action n ne up parent = by-card (hasWritten w n k) refl
+      action n ne up parent = by-card (hasCard w n k) refl
         where
-          by-card : (b : Bool) → hasWritten w n k ≡ b → P n (version w n k)
+          by-card : (b : Bool) → hasCard w n k ≡ b → P n (version w n k)
           by-card true is = subst (P n) (sym (version-own n ne up is)) (own n is)
           by-card false is = subst (P n) (sym (version-above n ne up is)) (above n ne up is _ parent)
 
@@ -65,18 +65,18 @@ module _ {w : List ℕ} {k : ℕ} where
   unfolding climbed
   store-nearest = record { leads = refl; holds = λ action. absurd (action refl); fewer = λ m h. absurd (omega arith) }
 
-  own-nearest : (n : ℕ) → hasWritten w n k ≡ true → IsNearest w n k (record { holder = n; moves = 0 })
+  own-nearest : (n : ℕ) → hasCard w n k ≡ true → IsNearest w n k (record { holder = n; moves = 0 })
   unfolding climbed
   own-nearest n own = record { leads = refl; holds = λ _. own; fewer = λ m h. absurd (omega arith) }
 
   above-nearest :
-      (n : ℕ) → n ≢ 0 → hasWritten w n k ≡ false → (v : Version) → IsNearest w (parentOf w n) k v →
+      (n : ℕ) → n ≢ 0 → hasCard w n k ≡ false → (v : Version) → IsNearest w (parentOf w n) k v →
       IsNearest w n k (record { holder = v .holder; moves = suc (v .moves) })
   unfolding climbed
-  above-nearest n ne unwritten v near = record { leads = near .leads; holds = near .holds; fewer = fewer }
+  above-nearest n ne without v near = record { leads = near .leads; holds = near .holds; fewer = fewer }
     where
-      fewer : (m : ℕ) → m < suc (v .moves) → (climbed w m n ≢ 0) × (hasWritten w (climbed w m n) k ≡ false)
-      fewer zero h = (ne, unwritten)
+      fewer : (m : ℕ) → m < suc (v .moves) → (climbed w m n ≢ 0) × (hasCard w (climbed w m n) k ≡ false)
+      fewer zero h = (ne, without)
       fewer (suc m) h = near .fewer m (omega arith)
 
 -- RULES 3.1: on a sound table, seen from the store or any action, the version is the nearest by its meaning
@@ -89,7 +89,7 @@ version-nearest w s n k known =
 fewer-not-nearest : {w : List ℕ} {n k : ℕ} {v u : Version} → IsNearest w n k v → IsNearest w n k u → u .moves < v .moves → ⊥
 fewer-not-nearest {w} {n} {k} {v} {u} a b less =
     let past = a .fewer (u .moves) less in
-    let here : (u .holder ≢ 0) × (hasWritten w (u .holder) k ≡ false) = rw (b .leads) at past in
+    let here : (u .holder ≢ 0) × (hasCard w (u .holder) k ≡ false) = rw (b .leads) at past in
     true≢false (sym (b .holds (here .0)) ∙ here .1)
 
 -- and there is no other: of two such versions neither has fewer moves, so both lead to the same holder

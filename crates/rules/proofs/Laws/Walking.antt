@@ -8,7 +8,7 @@ use mathlib.Core.Bool.{true, false, cond, _||_}
 use mathlib.Core.List.{List}
 use borrow.Author.Tests.{eqb-true, eqb-false, eq-eqb, ne-eqb}
 use lib.Dec.{eqb}
-use Rattle.rules.specs.Table.{mostActions, started, parentOf, hasWritten}
+use Rattle.rules.specs.Table.{mostActions, started, parentOf, hasCard}
 use Rattle.rules.specs.Walk.{walkUp, isAtOrBelow}
 use Rattle.rules.specs.Nearest.{nearest}
 use Rattle.rules.specs.Sound.{IsStarted, Sound}
@@ -140,7 +140,7 @@ unfolding nearest
 nearest-store w k = walk-store _ _ _ mostActions
 
 module _ (w : List ℕ) (n k : ℕ) where
-  pub nearest-step : n ≢ 0 → Climbs w n → nearest w n k ≡ cond (hasWritten w n k) n (nearest w (parentOf w n) k)
+  pub nearest-step : n ≢ 0 → Climbs w n → nearest w n k ≡ cond (hasCard w n k) n (nearest w (parentOf w n) k)
   unfolding nearest
   nearest-step = walk-step _ _ _ mostActions n
 
@@ -151,7 +151,7 @@ nearest-started w s n k known =
     walk-holds _ _ _ (λ m near. m ≤ started w → near ≤ started w)
     (λ h. h)
     (λ m ne near above h.
-    cond-holds (λ x. x ≤ started w) (hasWritten w m k) (λ e. h) (λ e. above (parent-known s m (omega arith))))
+    cond-holds (λ x. x ≤ started w) (hasCard w m k) (λ e. h) (λ e. above (parent-known s m (omega arith))))
     mostActions n (sound-climbs s n known) known
 
 -- ---- at or below an action

@@ -1,5 +1,5 @@
 -- The reads and writes of a block, taken from the block itself: the block's steps hold just these. Also those that stand
--- at one place of S. Assumes nothing.
+-- at one place of S. An add is a write whose effect is a sum. Assumes nothing.
 use Prim.Native.Nat.{ℕ}
 use mathlib.Core.Path.{_≡_, refl, _∙_}
 use mathlib.Core.Logic.{_≢_}
@@ -8,10 +8,11 @@ use mathlib.Core.Option.{Option, none, some}
 use mathlib.Core.List.{List, [], _∷_, _++_, append-nil, append-assoc}
 use lib.Dec.{eqb}
 use borrow.Author.Tests.{eq-eqb, ne-eqb}
+use Rattle.rules.specs.Amount.{amountIn}
 use Rattle.rules.specs.Event.{Event}
-use Rattle.rules.specs.Serial.Effect.{Effect}
+use Rattle.rules.specs.Serial.Effect.{Effect, puts, adds}
 use Rattle.rules.specs.Serial.Block.{Block, empty, read, write, child}
-use Rattle.rules.specs.Serial.Told.{Told, itBegan, itRead, itWrote, itCommitted, itDidNothing}
+use Rattle.rules.specs.Serial.Told.{Told, itBegan, itRead, itWrote, itAdded, itCommitted, itDidNothing}
 use Rattle.rules.specs.Serial.Schedule.{Operation, begins, reads, writes, ends, scheduleOf}
 use Rattle.rules.specs.Serial.Reach.{Act, actOf, innermost, actsIn, atPlace}
 
@@ -43,7 +44,7 @@ store-steps-acts b = rw (← (append-nil (scheduleOf b)), steps-acts [] b [], ap
 
 -- ---- those of one place
 
-atPlace-append : (i : ℕ) (xs ys : List Act) → atPlace i (xs ++ ys) ≡ atPlace i xs ++ atPlace i ys
+pub atPlace-append : (i : ℕ) (xs ys : List Act) → atPlace i (xs ++ ys) ≡ atPlace i xs ++ atPlace i ys
 unfolding atPlace
 atPlace-append i [] ys = refl
 atPlace-append i (x ∷ xs) ys = rw (atPlace-append i xs ys) (cases (eqb (x .place) i) (atPlace i xs) (atPlace i ys))
@@ -68,7 +69,8 @@ act-cases :
     P (actOf j e it)
 unfolding actOf
 act-cases P j e itRead no-act act = act none
-act-cases P j e itWrote no-act act = act (some (some (e .card)))
+act-cases P j e itWrote no-act act = act (some (puts (e .card)))
+act-cases P j e itAdded no-act act = act (some (adds (amountIn (e .card))))
 act-cases P j e (itBegan n) no-act act = no-act
 act-cases P j e itCommitted no-act act = no-act
 act-cases P j e itDidNothing no-act act = no-act

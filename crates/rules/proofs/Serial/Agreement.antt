@@ -11,7 +11,7 @@ use mathlib.Core.List.{List, [], _∷_}
 use borrow.Author.Tests.{eqb-true, eqb-false, ne-eqb}
 use Rattle.rules.specs.declared.Answer.{Answer}
 use Rattle.rules.specs.Event.{Event}
-use Rattle.rules.specs.Serial.Told.{Told, itBegan, itRead, itWrote, itCommitted, itDidNothing, told}
+use Rattle.rules.specs.Serial.Told.{Told, itBegan, itRead, itWrote, itAdded, itCommitted, itDidNothing, told}
 use Rattle.rules.specs.Serial.Collect.{put, commitsAt}
 use Rattle.rules.specs.Serial.Reach.{parentsAfter, isGivenTo}
 use Rattle.rules.specs.Serial.Starts.{Lineage, noStarts, withStart, withCommit, withCommits, withStartAt, lineageOne}
@@ -46,6 +46,7 @@ module _ {Vs : Values} where
   WhoLives s s′ e (itBegan n) = Begins s s′ n (e .number)
   WhoLives s s′ e itRead = NobodyNew s s′ × Live s′ (e .number)
   WhoLives s s′ e itWrote = NobodyNew s s′ × Live s′ (e .number)
+  WhoLives s s′ e itAdded = NobodyNew s s′ × Live s′ (e .number)
   WhoLives s s′ e itCommitted = Ends s s′ (e .number)
   WhoLives s s′ e itDidNothing = NobodyNew s s′
 
@@ -80,6 +81,7 @@ module _ {Vs : Values} {s s′ : AbstractState Vs} where
     not-given {it = itBegan n} step {X} held = ne-eqb X n (given-free (step .tree′) (step .lives) held)
     not-given {it = itRead} step held = refl
     not-given {it = itWrote} step held = refl
+    not-given {it = itAdded} step held = refl
     not-given {it = itCommitted} step held = refl
     not-given {it = itDidNothing} step held = refl
 
@@ -89,6 +91,7 @@ module _ {Vs : Values} {s s′ : AbstractState Vs} where
     live-before {it = itBegan n} step X other l′ = step .lives .nobody-else-new X l′ (eqb-false X n other)
     live-before {it = itRead} step X other l′ = step .lives .0 X l′
     live-before {it = itWrote} step X other l′ = step .lives .0 X l′
+    live-before {it = itAdded} step X other l′ = step .lives .0 X l′
     live-before {it = itCommitted} step X other l′ = step .lives .nobody-new X l′
     live-before {it = itDidNothing} step X other l′ = step .lives X l′
 
@@ -98,6 +101,7 @@ module _ {Vs : Values} {s s′ : AbstractState Vs} where
     committer-ends {it = itBegan n} step X same = absurd (false≢true same)
     committer-ends {it = itRead} step X same = absurd (false≢true same)
     committer-ends {it = itWrote} step X same = absurd (false≢true same)
+    committer-ends {it = itAdded} step X same = absurd (false≢true same)
     committer-ends {it = itDidNothing} step X same = absurd (false≢true same)
 
 -- ---- what is kept
@@ -240,5 +244,6 @@ unfolding parentsAfter lineageOne withStartAt commitsAt withCommits
 one-agree {it = itBegan n} step kept = begin-agree kept (step .tree′) (step .parent-kept) (step .lives)
 one-agree {it = itRead} step kept = nobody-new-agree kept (step .tree′) (step .parent-kept) (step .lives .0)
 one-agree {it = itWrote} step kept = nobody-new-agree kept (step .tree′) (step .parent-kept) (step .lives .0)
+one-agree {it = itAdded} step kept = nobody-new-agree kept (step .tree′) (step .parent-kept) (step .lives .0)
 one-agree {it = itCommitted} step kept = end-agree kept (step .tree′) (step .parent-kept) (step .lives)
 one-agree {it = itDidNothing} step kept = nobody-new-agree kept (step .tree′) (step .parent-kept) (step .lives)

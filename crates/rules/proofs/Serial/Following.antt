@@ -10,7 +10,7 @@ use borrow.Author.Tests.{eqb-false, ne-eqb}
 use Rattle.rules.specs.declared.Answer.{Answer}
 use Rattle.rules.specs.Range.{upFrom}
 use Rattle.rules.specs.Event.{Event}
-use Rattle.rules.specs.Serial.Told.{Told, itBegan, itRead, itWrote, itCommitted, itDidNothing, told}
+use Rattle.rules.specs.Serial.Told.{Told, itBegan, itRead, itWrote, itAdded, itCommitted, itDidNothing, told}
 use Rattle.rules.specs.Serial.Collect.{commitsAt}
 use Rattle.rules.specs.Serial.Reach.{parentsAfter, isGivenTo, movedUp, reachesStore, Act, actOf, actsOfR}
 use Rattle.rules.specs.Serial.Starts.{Lineage, withCommits, withStartAt, lineageOne, lineageFrom, isInR, givenAt, startsReach, actsOfStarts}
@@ -30,6 +30,7 @@ unfolding parentsAfter isGivenTo
 known-parent-kept parent e (itBegan n) X other = put-elsewhere parent n (e .number) X (eqb-false X n other)
 known-parent-kept parent e itRead X other = refl
 known-parent-kept parent e itWrote X other = refl
+known-parent-kept parent e itAdded X other = refl
 known-parent-kept parent e itCommitted X other = refl
 known-parent-kept parent e itDidNothing X other = refl
 
@@ -41,6 +42,7 @@ followed-next parent e itCommitted X = refl
 followed-next parent e (itBegan n) X = refl
 followed-next parent e itRead X = refl
 followed-next parent e itWrote X = refl
+followed-next parent e itAdded X = refl
 followed-next parent e itDidNothing X = refl
 
 -- ---- a number under which nobody is live, and a start that nobody live has
@@ -214,6 +216,7 @@ one-start (itBegan n) step h last more reaches inR same =
     rw (one-more, same n (inr (step .lives .now-live)), put-there (h .startOf) n (suc (h .starts))) refl
 one-start itRead step h last more reaches inR same = refl
 one-start itWrote step h last more reaches inR same = refl
+one-start itAdded step h last more reaches inR same = refl
 one-start itCommitted step h last more reaches inR same = refl
 one-start itDidNothing step h last more reaches inR same = refl
 
@@ -238,6 +241,7 @@ own-acts :
 unfolding actOf
 own-acts i e itRead step b b′ later same = rw (same (step .lives .1))
 own-acts i e itWrote step b b′ later same = rw (same (step .lives .1))
+own-acts i e itAdded step b b′ later same = rw (same (step .lives .1))
 own-acts i e (itBegan n) step b b′ later same = cond-same b later ∙ sym (cond-same b′ later)
 own-acts i e itCommitted step b b′ later same = cond-same b later ∙ sym (cond-same b′ later)
 own-acts i e itDidNothing step b b′ later same = cond-same b later ∙ sym (cond-same b′ later)

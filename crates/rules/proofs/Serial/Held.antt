@@ -11,7 +11,7 @@ use borrow.Author.Tests.{eqb-true, eqb-false}
 use Rattle.rules.specs.Event.{Event}
 use Rattle.rules.specs.Serial.Effect.{Effect}
 use Rattle.rules.specs.Serial.Block.{Block, empty}
-use Rattle.rules.specs.Serial.Told.{Told, itBegan, itRead, itWrote, itCommitted, itDidNothing}
+use Rattle.rules.specs.Serial.Told.{Told, itBegan, itRead, itWrote, itAdded, itCommitted, itDidNothing}
 use Rattle.rules.specs.Serial.Collect.{put, Known, begun, laid, commitsAt, laidAll, stepped, collectOne, unknown}
 use Rattle.rules.specs.Serial.Reach.{Act, actOf, atPlace, parentsAfter, isGivenTo, movedUp}
 use Rattle.rules.proofs.Laws.Tests.{cond-holds, cond-same}
@@ -124,6 +124,7 @@ unfolding stepped parentsAfter
 stepped-parent j e (itBegan n) c = refl
 stepped-parent j e itRead c = refl
 stepped-parent j e itWrote c = refl
+stepped-parent j e itAdded c = refl
 stepped-parent j e itCommitted c = refl
 stepped-parent j e itDidNothing c = refl
 
@@ -142,6 +143,7 @@ unfolding stepped isGivenTo actOf actsOf
 stepped-held j e (itBegan n) c not-here held = begun-held c n (e .number) held
 stepped-held {i} j e itRead c not-here held = same-held held (e .number) _ (none-behind i _ _ not-here)
 stepped-held {i} j e itWrote c not-here held = same-held held (e .number) _ (none-behind i _ _ not-here)
+stepped-held {i} j e itAdded c not-here held = same-held held (e .number) _ (none-behind i _ _ not-here)
 stepped-held j e itCommitted c not-here held = held
 stepped-held j e itDidNothing c not-here held = held
 
@@ -173,6 +175,8 @@ own-held-after {i} e itRead c clear =
     first-held clear (e .number) _ (none-before i _ _ (none-held clear (e .number)) ∙ act-there i e itRead)
 own-held-after {i} e itWrote c clear =
     first-held clear (e .number) _ (none-before i _ _ (none-held clear (e .number)) ∙ act-there i e itWrote)
+own-held-after {i} e itAdded c clear =
+    first-held clear (e .number) _ (none-before i _ _ (none-held clear (e .number)) ∙ act-there i e itAdded)
 own-held-after {i} e (itBegan n) c clear =
     any-holder (none-after i e (itBegan n) c (act-there i e (itBegan n)) clear) (e .number)
 own-held-after {i} e itCommitted c clear =

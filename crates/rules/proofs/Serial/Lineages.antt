@@ -12,11 +12,11 @@ use lib.Dec.{eqb}
 use borrow.Author.Tests.{eqb-true, eqb-false, eq-eqb}
 use Rattle.rules.specs.declared.Answer.{Answer}
 use Rattle.rules.specs.Event.{Event}
-use Rattle.rules.specs.Serial.Told.{Told, itBegan, itRead, itWrote, itCommitted, itDidNothing, told}
+use Rattle.rules.specs.Serial.Told.{Told, itBegan, itRead, itWrote, itAdded, itCommitted, itDidNothing, told}
 use Rattle.rules.specs.Serial.Collect.{commitsAt}
 use Rattle.rules.specs.Serial.Reach.{isGivenTo}
 use Rattle.rules.specs.Serial.Starts.{Lineage, noStarts, withStart, withCommit, withCommits, withStartAt, lineageOne, lineageFrom, isInR, IsR}
-use Rattle.rules.proofs.Laws.Tests.{and-holds}
+use Rattle.rules.proofs.Laws.Tests.{same-test, and-holds}
 use Rattle.rules.proofs.Laws.Puts.{put-there, put-elsewhere, put-holds}
 use Rattle.rules.proofs.Laws.Climbing.{falling-climbs}
 use Rattle.rules.proofs.Laws.Walking.{walk-store, walk-step}
@@ -114,6 +114,7 @@ unfolding withStartAt
 startAt-ordered o e (itBegan n) = start-ordered o n (e .number)
 startAt-ordered o e itRead = o
 startAt-ordered o e itWrote = o
+startAt-ordered o e itAdded = o
 startAt-ordered o e itCommitted = o
 startAt-ordered o e itDidNothing = o
 
@@ -122,6 +123,7 @@ unfolding withStartAt
 startAt-extends h e (itBegan n) = start-extends h n (e .number)
 startAt-extends h e itRead = extends-itself h
 startAt-extends h e itWrote = extends-itself h
+startAt-extends h e itAdded = extends-itself h
 startAt-extends h e itCommitted = extends-itself h
 startAt-extends h e itDidNothing = extends-itself h
 
@@ -154,6 +156,7 @@ commitsHere e itCommitted n = eqb n (e .number)
 commitsHere e (itBegan m) n = false
 commitsHere e itRead n = false
 commitsHere e itWrote n = false
+commitsHere e itAdded n = false
 commitsHere e itDidNothing n = false
 
 module _ (h : Lineage) (e : Event) where
@@ -166,6 +169,7 @@ module _ (h : Lineage) (e : Event) where
   start-kept (itBegan m) n other = put-elsewhere (h .startOf) m _ n (eqb-false n m other)
   start-kept itRead n other = refl
   start-kept itWrote n other = refl
+  start-kept itAdded n other = refl
   start-kept itCommitted n other = refl
   start-kept itDidNothing n other = refl
 
@@ -175,6 +179,7 @@ module _ (h : Lineage) (e : Event) where
   start-given (itBegan m) n same = rw (eqb-true n m same) (put-there (h .startOf) m _)
   start-given itRead n same = absurd (false≢true same)
   start-given itWrote n same = absurd (false≢true same)
+  start-given itAdded n same = absurd (false≢true same)
   start-given itCommitted n same = absurd (false≢true same)
   start-given itDidNothing n same = absurd (false≢true same)
 
@@ -184,6 +189,7 @@ module _ (h : Lineage) (e : Event) where
   commit-told (itBegan m) n same = absurd (false≢true same)
   commit-told itRead n same = absurd (false≢true same)
   commit-told itWrote n same = absurd (false≢true same)
+  commit-told itAdded n same = absurd (false≢true same)
   commit-told itDidNothing n same = absurd (false≢true same)
 
   -- a start that nobody has who commits there
@@ -196,6 +202,7 @@ module _ (h : Lineage) (e : Event) where
   no-commit-told (itBegan m) x others = refl
   no-commit-told itRead x others = refl
   no-commit-told itWrote x others = refl
+  no-commit-told itAdded x others = refl
   no-commit-told itDidNothing x others = refl
 
 -- ---- R
@@ -210,12 +217,6 @@ unfolding isInR
 inR-step {h} o x begun =
     walk-step _ _ _ (h .starts) x (λ z. omega arith)
     (falling-climbs (h .parentStart) (h .starts) (o .older) (h .starts) x (begun .1) (begun .1))
-
--- two tests that hold together are one
-same-test : (a b : Bool) → (a ≡ true → b ≡ true) → (b ≡ true → a ≡ true) → a ≡ b
-same-test true b f g = sym (f refl)
-same-test false true f g = g refl
-same-test false false f g = refl
 
 -- what the rule asks of the parent of x
 abbrev AboveChosen : Lineage → (ℕ → Bool) → ℕ → Type 0

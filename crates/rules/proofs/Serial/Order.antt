@@ -12,7 +12,7 @@ use Rattle.rules.specs.declared.Answer.{Answer}
 use Rattle.rules.specs.Event.{Event}
 use Rattle.rules.specs.Serial.Effect.{Effect}
 use Rattle.rules.specs.Serial.Block.{Block, empty, read, write, child}
-use Rattle.rules.specs.Serial.Told.{Told, itBegan, itRead, itWrote, itCommitted, itDidNothing, told}
+use Rattle.rules.specs.Serial.Told.{Told, itBegan, itRead, itWrote, itAdded, itCommitted, itDidNothing, told}
 use Rattle.rules.specs.Serial.Collect.{put, Known, laid, commitsAt, laidAll, stepped, collectOne, collectFrom, unknown, storeBlock}
 use Rattle.rules.specs.Serial.Reach.{inOrder}
 use Rattle.rules.proofs.Laws.Tests.{and-left, and-right, and-both}
@@ -71,6 +71,7 @@ module _ (j : ℕ) (c : Known) (ordered : AllInOrder j (c .block)) where
   collected-ordered e (itBegan n) = put-ordered n empty refl
   collected-ordered e itRead = put-ordered (e .number) _ (and-both (before-next j) (ordered (e .number)))
   collected-ordered e itWrote = put-ordered (e .number) _ (and-both (before-next j) (ordered (e .number)))
+  collected-ordered e itAdded = put-ordered (e .number) _ (and-both (before-next j) (ordered (e .number)))
   collected-ordered e itCommitted = laid-ordered (e .number)
   collected-ordered e itDidNothing = all-before-next j (c .block) ordered
 

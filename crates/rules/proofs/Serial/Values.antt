@@ -1,10 +1,12 @@
 -- What an account shows and what an action has done to it, known by their laws alone. Assumes nothing.
 use mathlib.Core.Path.{_≡_, refl}
 use mathlib.Core.Bool.{Bool, true, false, false≢true}
-use mathlib.Core.Option.{none, some}
 use mathlib.Core.List.{List}
 use Prim.Native.Nat.{ℕ}
-use Rattle.rules.specs.Serial.Effect.{Effect, over, lay}
+use lib.IntN.{ℤ, _+ℤ_, +ℤ-assoc}
+use Rattle.rules.specs.Amount.{withAmount}
+use Rattle.rules.specs.Serial.Effect.{Effect, nothing, puts, adds, lay}
+use Rattle.rules.proofs.Laws.Amounts.{withAmount-again}
 
 pub record Values : Type 1 where
   pub Val : Type 0
@@ -28,41 +30,60 @@ over-same Vs f {v} {w} same = cases (Vs .hides f) refl
     cases true hidden = Vs .over-hides f hidden v w
     cases false shown = rw (same shown)
 
--- The base's values: an account shows a card, and an action has put a whole card on it or nothing.
+-- The values of our accounts. An account below the charge accounts shows a card. A charge account shows the card as it would
+-- stand if all sums on the way up were settled, and the exact sum: so what an action sees before its commit and what the base
+-- shows after it are one expression.
+pub data AccountValue : Type 0 where
+  plain : (card : List ℕ) → AccountValue
+  charge : (card : List ℕ) (sum : ℤ) → AccountValue
 
+-- a sum over a plain card is never met
+unfoldable pub over : Effect → AccountValue → AccountValue
+over nothing v = v
+over (puts card) v = plain card
+over (adds x) (plain card) = plain card
+over (adds x) (charge card z) = charge (withAmount card (z +ℤ x)) (z +ℤ x)
+
+-- only an own card hides what lies above
 unfoldable pub hides : Effect → Bool
-hides none = false
-hides (some card) = true
+hides nothing = false
+hides (puts card) = true
+hides (adds x) = false
 
-pub lay-none : (g : Effect) → lay none g ≡ g
+pub lay-nothing : (g : Effect) → lay nothing g ≡ g
 unfolding lay
-lay-none g = refl
+lay-nothing g = refl
 
-pub over-none : (card : List ℕ) → over none card ≡ card
+pub over-nothing : (v : AccountValue) → over nothing v ≡ v
 unfolding over
-over-none card = refl
+over-nothing v = refl
 
-pub over-laid : (f g : Effect) (card : List ℕ) → over (lay f g) card ≡ over f (over g card)
+pub over-laid : (f g : Effect) (v : AccountValue) → over (lay f g) v ≡ over f (over g v)
 unfolding lay over
-over-laid none g card = refl
-over-laid (some own) g card = refl
+over-laid nothing g v = refl
+over-laid (puts card) g v = refl
+over-laid (adds x) nothing v = refl
+over-laid (adds x) (puts card) v = refl
+over-laid (adds x) (adds y) (plain card) = refl
+over-laid (adds x) (adds y) (charge card z) = rw (+ℤ-assoc z y x, withAmount-again card (z +ℤ y) (z +ℤ (y +ℤ x)))
 
-pub over-hidden : (f : Effect) → hides f ≡ true → (c d : List ℕ) → over f c ≡ over f d
+pub over-hidden : (f : Effect) → hides f ≡ true → (v w : AccountValue) → over f v ≡ over f w
 unfolding over hides
-over-hidden none h c d = absurd (false≢true h)
-over-hidden (some own) h c d = refl
+over-hidden nothing h v w = absurd (false≢true h)
+over-hidden (puts card) h v w = refl
+over-hidden (adds x) h v w = absurd (false≢true h)
 
-abbrev pub cards : Values
-cards =
+abbrev pub accountValues : Values
+accountValues =
     record {
-      Val = List ℕ;
+      Val = AccountValue;
       Eff = Effect;
-      nil = none;
+      nil = nothing;
       lay = lay;
       over = over;
       hides = hides;
-      lay-nil = lay-none;
-      over-nil = over-none;
+      lay-nil = lay-nothing;
+      over-nil = over-nothing;
       over-lay = over-laid;
       over-hides = over-hidden;
     }

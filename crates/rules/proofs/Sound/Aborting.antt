@@ -13,7 +13,7 @@ use lib.ListN.{length}
 use Rattle.rules.specs.declared.Answer.the-variants.{Aborted}
 use Rattle.rules.specs.Range.{count}
 use Rattle.rules.specs.Card.{accountCount}
-use Rattle.rules.specs.Table.{hasEnd, width, live, committed, aborted, word, startedField, started, counterField, counter, parentField, parentOf, stateField, stateOf, endField, readField, readEntry, hasRead, readTime, writeField, isLive, isCommitted, actions}
+use Rattle.rules.specs.Table.{hasEnd, width, live, committed, aborted, word, startedField, started, counterField, counter, parentField, parentOf, stateField, stateOf, endField, readField, readEntry, hasRead, readTime, writeField, pendingField, isLive, isCommitted, actions}
 use Rattle.rules.specs.Walk.{isAtOrBelow}
 use Rattle.rules.specs.Sound.{hasState, IsStarted, Sound}
 use Rattle.rules.specs.Ledger.{Ledger}
@@ -21,7 +21,7 @@ use Rattle.rules.specs.Step.{isAbortedBy, abortTable, abort}
 use Rattle.rules.proofs.Laws.Tests.{and-left, and-right, and-both, cond-holds}
 use Rattle.rules.proofs.Laws.Ranges.{count-some, any-at, count-agree}
 use Rattle.rules.proofs.Laws.RowPass.{pass-length, pass-other-field, pass-other-row, pass-field}
-use Rattle.rules.proofs.Sound.TableChanges.{TableChange, writes-agree}
+use Rattle.rules.proofs.Sound.TableChanges.{TableChange, sum-stays, writes-agree}
 use Rattle.rules.proofs.Laws.Walking.{parent-known, sound-climbs, atOrBelow-itself, notBelow-parent}
 
 -- ---- the table after an abort of n
@@ -122,6 +122,10 @@ module _ (w : List ℕ) (n : ℕ) where
           parentStays = parent-left;
           reads = reads-kept;
           ends = λ m h e. inl (sym (end-kept m h) ∙ e, abort-keeps-field m endField (omega arith) (λ z. omega arith));
+          pendings =
+              λ m k h charge.
+              sum-stays w (abortTable w n) m k (abort-keeps-field m (writeField k) (omega arith) (λ z. omega arith))
+              (abort-keeps-field m (pendingField k) (omega arith) (λ z. omega arith));
         }
 
     -- ---- RULES 2.6: the count of the answer

@@ -9,14 +9,14 @@ use mathlib.Core.List.{List}
 use borrow.Author.Tests.{eq-eqb, ne-eqb}
 use lib.Dec.{eqb}
 use lib.ListN.{length}
-use Rattle.rules.specs.Card.{accountCount}
-use Rattle.rules.specs.Table.{width, tableLength, mostActions, committed, word, startedField, started, counterField, counter, withCounter, parentField, parentOf, stateField, stateOf, withState, endField, endTime, withEndTime, readFields, readField, readEntry, writeField, writeEntry, entered, hasWritten, hasWrites}
-use Rattle.rules.specs.Step.{commitTime, commitCounter, joinedRead, joinTable, commitTable}
+use Rattle.rules.specs.Card.{accountCount, IsCharge}
+use Rattle.rules.specs.Table.{width, tableLength, mostActions, committed, word, startedField, started, counterField, counter, withCounter, parentField, parentOf, stateField, stateOf, withState, endField, endTime, withEndTime, readFields, readField, readEntry, writeField, writeEntry, entered, hasWritten, hasWrites, pendingField, pendingWord}
+use Rattle.rules.specs.Step.{commitTime, commitCounter, joinedRead, joinedPending, joinTable, commitTable}
 use Rattle.rules.proofs.Laws.Words.{withWord-length, word-same, word-other-row, word-other-field, word-off-field}
-use Rattle.rules.proofs.Laws.Sets.{withSets-length, withSets-other-row, withSets-other-field, withSets-read, withSets-write}
+use Rattle.rules.proofs.Laws.Sets.{withSets-length, withSets-other-row, withSets-other-field, withSets-read, withSets-write, withSets-pending}
 
 module _ (w : List ℕ) (n p : ℕ) (one : 1 ≤ n) where
-  -- the table with the state, then the end time, then the counter put in; a parent's sets come last
+  -- the table with the state, then the end time, then the counter put in; a parent's sets and sums come last
   abbrev stated : List ℕ
   stated = withState w n committed
 
@@ -42,16 +42,16 @@ module _ (w : List ℕ) (n p : ℕ) (one : 1 ≤ n) where
       ∙ word-other-row stated n m endField g _ (omega arith) h ne
       ∙ word-other-row w n m stateField g _ (omega arith) h ne
 
-  -- what the join changes: the read and write entries of a parent that is an action
+  -- what the join changes: the read and write entries and the sums of a parent that is an action
   joined-elsewhere :
       (m g : ℕ) → g < width → (m ≢ p) ⊎ (g < readFields) → word (commitTable w n p) m g ≡ word ended m g
   unfolding commitTable joinTable
   joined-elsewhere m g h where′ = go (ℕ-discrete p 0)
     where
       apart : (m ≢ p) ⊎ (g < readFields) → Dec (m ≡ p) → word (joinTable ended n p) m g ≡ word ended m g
-      apart (inl ne) d = withSets-other-row ended p _ _ m g h ne
-      apart (inr low) (yes e) = rw e (withSets-other-field ended p _ _ g low)
-      apart (inr low) (no ne) = withSets-other-row ended p _ _ m g h ne
+      apart (inl ne) d = withSets-other-row ended p _ _ _ m g h ne
+      apart (inr low) (yes e) = rw e (withSets-other-field ended p _ _ _ g low)
+      apart (inr low) (no ne) = withSets-other-row ended p _ _ _ m g h ne
 
       go : Dec (p ≡ 0) → word (commitTable w n p) m g ≡ word ended m g
       go (yes e) = rw (eq-eqb p 0 e) refl
@@ -63,7 +63,7 @@ module _ (w : List ℕ) (n p : ℕ) (one : 1 ≤ n) where
     where
       go : Dec (p ≡ 0) → length (commitTable w n p) ≡ length w
       go (yes e) = rw (eq-eqb p 0 e) ended-length
-      go (no ne) = rw (ne-eqb p 0 ne) (withSets-length ended p _ _ ∙ ended-length)
+      go (no ne) = rw (ne-eqb p 0 ne) (withSets-length ended p _ _ _ ∙ ended-length)
 
   pub commit-started : started (commitTable w n p) ≡ started w
   commit-started = joined-elsewhere 0 startedField (omega arith) (inr (omega arith)) ∙ ended-keeps-field 0 startedField (omega arith) (λ z. omega arith) (λ z. omega arith)
@@ -75,10 +75,13 @@ module _ (w : List ℕ) (n p : ℕ) (one : 1 ≤ n) where
   pub commit-keeps-row : (m g : ℕ) → g < width → 1 ≤ m → m ≢ n → (m ≢ p) ⊎ (g < readFields) → word (commitTable w n p) m g ≡ word w m g
   commit-keeps-row m g h pos ne apart = joined-elsewhere m g h apart ∙ ended-keeps-row m g h pos ne
 
-  -- the one that commits keeps its sets
+  -- all but the parent keep their sets and sums, also the one that commits
+  pub commit-keeps-others : (m : ℕ) → m ≢ p → (g : ℕ) → readFields ≤ g → g < width → word (commitTable w n p) m g ≡ word w m g
+  commit-keeps-others m ne g high h =
+      joined-elsewhere m g h (inl ne) ∙ ended-keeps-field m g h (λ z. omega arith) (λ z. omega arith)
+
   pub commit-keeps-sets : n ≢ p → (g : ℕ) → readFields ≤ g → g < width → word (commitTable w n p) n g ≡ word w n g
-  commit-keeps-sets ne g high h =
-      joined-elsewhere n g h (inl ne) ∙ ended-keeps-field n g h (λ z. omega arith) (λ z. omega arith)
+  commit-keeps-sets = commit-keeps-others n
 
   module _ (long : length w ≡ tableLength) (few : n ≤ mostActions) where
     stated-long : length stated ≡ tableLength
@@ -106,7 +109,7 @@ module _ (w : List ℕ) (n p : ℕ) (one : 1 ≤ n) where
         ∙ word-other-row timed 0 n counterField endField _ (omega arith) (omega arith) (λ z. omega arith)
         ∙ word-same stated n endField _ stated-long few (omega arith)
 
-    -- a parent that is an action gets both unions
+    -- a parent that is an action gets both unions and the sums
     module _ (action : 1 ≤ p) (low : p ≤ mostActions) where
       joined : commitTable w n p ≡ joinTable ended n p
       unfolding commitTable
@@ -117,7 +120,7 @@ module _ (w : List ℕ) (n p : ℕ) (one : 1 ≤ n) where
       unfolding joinTable
       commit-read k hk =
           ap (λ t. readEntry t p k) joined
-          ∙ withSets-read ended p _ _ ended-long low k hk
+          ∙ withSets-read ended p _ _ _ ended-long low k hk
           ∙ ap₂ joinedRead
           (ended-keeps-field n (readField k) (omega arith) (λ z. omega arith) (λ z. omega arith))
           (ended-keeps-field p (readField k) (omega arith) (λ z. omega arith) (λ z. omega arith))
@@ -127,10 +130,21 @@ module _ (w : List ℕ) (n p : ℕ) (one : 1 ≤ n) where
       unfolding joinTable
       commit-write k hk =
           ap (λ t. writeEntry t p k) joined
-          ∙ withSets-write ended p _ _ ended-long low k hk
+          ∙ withSets-write ended p _ _ _ ended-long low k hk
           ∙ ap₂ (λ x y. cond (not (eqb x 0)) entered y)
           (ended-keeps-field n (writeField k) (omega arith) (λ z. omega arith) (λ z. omega arith))
           (ended-keeps-field p (writeField k) (omega arith) (λ z. omega arith) (λ z. omega arith))
+
+      pub commit-pending : (k : ℕ) → IsCharge k → pendingWord (commitTable w n p) p k ≡ joinedPending w n p k
+      unfolding joinTable
+      commit-pending k charge =
+          ap (λ t. pendingWord t p k) joined
+          ∙ withSets-pending ended p _ _ _ ended-long low k charge
+          ∙ rw (
+            ended-keeps-field n (writeField k) (omega arith) (λ z. omega arith) (λ z. omega arith),
+            ended-keeps-field n (pendingField k) (omega arith) (λ z. omega arith) (λ z. omega arith),
+            ended-keeps-field p (pendingField k) (omega arith) (λ z. omega arith) (λ z. omega arith),
+          ) refl
 
 -- a commit that wrote nothing has end time 0 and leaves the counter
 pub unwritten-uncounted : (w : List ℕ) (n : ℕ) → hasWrites w n ≡ false → (commitTime w n ≡ 0) × (commitCounter w n ≡ counter w)

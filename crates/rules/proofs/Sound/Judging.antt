@@ -5,22 +5,22 @@ use native.Mathlib.Decide.{ℕ-discrete}
 use native.Mathlib.Nat.{le-of-eq}
 use mathlib.Core.Path.{_≡_, refl, sym, ap, _∙_}
 use mathlib.Core.Logic.{_⊎_, inl, inr, ⊎-elim, _≢_}
-use mathlib.Core.Bool.{true, not}
+use mathlib.Core.Bool.{Bool, true, false, not, cond}
 use mathlib.Core.List.{List}
 use borrow.Author.Tests.{eqb-true, eqb-false, eq-eqb, ne-eqb, not-true}
 use lib.Dec.{eqb}
 use Rattle.rules.specs.Range.{count}
-use Rattle.rules.specs.Card.{accountCount}
-use Rattle.rules.specs.Table.{hasEnd, width, mostActions, live, committed, aborted, word, startedField, started, counterField, counter, parentField, parentOf, stateField, stateOf, withState, endField, endTime, readField, readEntry, hasRead, readTime, writeField, hasWrites, isLive, isCommitted, actions}
+use Rattle.rules.specs.Card.{accountCount, IsCharge}
+use Rattle.rules.specs.Table.{hasEnd, width, mostActions, live, committed, aborted, word, startedField, started, counterField, counter, parentField, parentOf, stateField, stateOf, withState, endField, endTime, readField, readEntry, hasRead, readTime, writeField, writeEntry, entered, hasWritten, hasWrites, pendingField, pendingWord, isLive, isCommitted, actions}
 use Rattle.rules.specs.Sound.{hasState, IsStarted, Sound}
-use Rattle.rules.specs.Step.{commitTime, commitCounter, joinedRead, commitTable}
-use Rattle.rules.proofs.Laws.Tests.{and-left, and-right, and-both, test, false-of-not-true}
+use Rattle.rules.specs.Step.{commitTime, commitCounter, joinedRead, joinedPending, commitTable}
+use Rattle.rules.proofs.Laws.Tests.{and-left, and-right, and-both, test, not-both, false-of-not-true}
 use Rattle.rules.proofs.Laws.Ranges.{count-agree, count-one-more}
 use Rattle.rules.proofs.Laws.Permitted.{Committable, no-live-child, not-own-parent}
 use Rattle.rules.proofs.Laws.Words.{withWord-length, word-same, word-other-row, word-off-field}
 use Rattle.rules.proofs.Laws.Walking.{parent-known}
-use Rattle.rules.proofs.Sound.TableChanges.{TableChange, Ended, writes-agree, live-uncommitted}
-use Rattle.rules.proofs.Sound.Committing.{commit-length, commit-started, commit-parent, commit-keeps-row, commit-keeps-sets, commit-counter, commit-state, commit-end, commit-read}
+use Rattle.rules.proofs.Sound.TableChanges.{TableChange, Ended, SumStays, sum-stays, writes-agree, live-uncommitted}
+use Rattle.rules.proofs.Sound.Committing.{commit-length, commit-started, commit-parent, commit-keeps-row, commit-keeps-sets, commit-keeps-others, commit-counter, commit-state, commit-end, commit-read, commit-write, commit-pending}
 
 -- ---- one action finishes: what its state alone gives of a change
 
@@ -113,6 +113,10 @@ module _ (w : List ℕ) (s : Sound w) (n : ℕ) (j : Committable w n) where
         parentStays = parent-stays w failed n j (inr fail-state) fail-others;
         reads = fail-reads;
         ends = λ m h e. inl (fail-end m h e, fail-keeps-field m endField (omega arith) (λ z. omega arith));
+        pendings =
+            λ m k h charge.
+            sum-stays w failed m k (fail-keeps-field m (writeField k) (omega arith) (λ z. omega arith))
+            (fail-keeps-field m (pendingField k) (omega arith) (λ z. omega arith));
       }
 
 -- ---- a commit that passes
@@ -226,6 +230,32 @@ module _ (w : List ℕ) (s : Sound w) (n : ℕ) (j : Committable w n) where
           commit-keeps-row w n parent (j .own .0) m (readField k) (omega arith) (h .0) other (inl ne) in
           rw entry (old-time m k h was hk (eqb-false _ _ (not-true _ (rw entry at r))))
 
+  -- an account that n has written enters the parent's write set; any other keeps its entry and its sum there
+  parent-sums : 1 ≤ parent → (k : ℕ) → IsCharge k → SumStays w passed parent k
+  parent-sums pos k charge = go (hasWritten w n k) refl
+    where
+      low : parent ≤ mostActions
+      low = omega (arith, parent-started, s .few)
+
+      entry : writeEntry passed parent k ≡ cond (hasWritten w n k) entered (writeEntry w parent k)
+      entry = commit-write w n parent (j .own .0) (s .long) n-few pos low k (charge .1)
+
+      sum : pendingWord passed parent k ≡ joinedPending w n parent k
+      sum = commit-pending w n parent (j .own .0) (s .long) n-few pos low k charge
+
+      go : (b : Bool) → hasWritten w n k ≡ b → SumStays w passed parent k
+      go true wrote = λ none. absurd (not-both (rw (entry, wrote) refl) none)
+      go false wrote = sum-stays w passed parent k (entry ∙ rw wrote refl) (sum ∙ rw wrote refl)
+
+  pass-sums : (m k : ℕ) → IsStarted w m → IsCharge k → SumStays w passed m k
+  pass-sums m k h charge = go (ℕ-discrete m parent)
+    where
+      go : Dec (m ≡ parent) → SumStays w passed m k
+      go (yes z) = rw z (parent-sums (rw z at (h .0)) k charge)
+      go (no apart) =
+          let kept = commit-keeps-others w n parent (j .own .0) m apart in
+          sum-stays w passed m k (kept (writeField k) (omega arith) (omega arith)) (kept (pendingField k) (omega arith) (omega arith))
+
   pub commit-change : TableChange w (commitTable w n (parentOf w n)) n
   commit-change =
       record {
@@ -239,4 +269,5 @@ module _ (w : List ℕ) (s : Sound w) (n : ℕ) (j : Committable w n) where
         parentStays = parent-stays w passed n j (inl pass-state) pass-others;
         reads = pass-reads;
         ends = pass-end;
+        pendings = pass-sums;
       }

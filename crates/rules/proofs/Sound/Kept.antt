@@ -4,13 +4,14 @@ use Prim.Native.Nat.{ℕ}
 use mathlib.Core.Path.{refl}
 use mathlib.Core.List.{List, [], _∷_}
 use Rattle.rules.specs.Range.{upFrom, all, count}
+use Rattle.rules.specs.Card.{IsCharge}
 use Rattle.rules.specs.Table.{word, newTable, actions}
 use Rattle.rules.specs.Sound.{sound, Sound}
 use Rattle.rules.specs.Event.{Event}
 use Rattle.rules.specs.declared.Found.{Found}
 use Rattle.rules.specs.declared.Found.the-variants.{Nothing, At}
 use Rattle.rules.specs.Ledger.{Ledger}
-use Rattle.rules.specs.Step.{Outcome, start, read, write, committedUnder, judged, abort, step}
+use Rattle.rules.specs.Step.{Outcome, start, read, write, add, committedUnder, judged, abort, step}
 use Rattle.rules.specs.Run.{run}
 use Rattle.rules.proofs.Laws.Permitted.{Startable, Touchable, Committable, step-by-kind}
 use Rattle.rules.proofs.Sound.Soundness.{facts}
@@ -18,6 +19,7 @@ use Rattle.rules.proofs.Sound.TableChanges.{TableChange, change-keeps-s
 use Rattle.rules.proofs.Sound.Starting.{start-keeps-sound}
 use Rattle.rules.proofs.Sound.Reading.{read-change}
 use Rattle.rules.proofs.Sound.Writing.{write-change}
+use Rattle.rules.proofs.Sound.Adding.{add-change}
 use Rattle.rules.proofs.Sound.Judging.{fail-change, commit-change}
 use Rattle.rules.proofs.Sound.Aborting.{abort-change}
 
@@ -47,6 +49,10 @@ module _ (s : Ledger) (was : Sound (s .table)) (n : ℕ) where
   unfolding write
   write-sound k card p = by-change _ (write-change (s .table) was n k (p .own) (p .alive) (p .account))
 
+  add-sound : (k : ℕ) (card : List ℕ) → Touchable (s .table) n k → IsCharge k → Sounds (add s n k card)
+  unfolding add
+  add-sound k card p charge = by-change _ (add-change (s .table) was n k (p .own) (p .alive) charge _)
+
   judged-sound : Committable (s .table) n → (f : Found) → Sounds (judged s n f)
   unfolding judged committedUnder
   judged-sound j Nothing = by-change _ (commit-change (s .table) was n j)
@@ -62,8 +68,8 @@ pub step-keeps-sound : (s : Ledger) (e : Event) → Sound (s .table) → Sound (
 step-keeps-sound s e was =
     let n = e .number in
     step-by-kind s e Sounds was
-    (start-sound s was n) (read-sound s was n (e .account)) (λ p _. write-sound s was n (e .account) (e .card) p)
-    (λ j f _. judged-sound s was n j f) (abort-sound s was n)
+    (start-sound s was n) (λ p _. read-sound s was n (e .account) p) (λ p _ _. write-sound s was n (e .account) (e .card) p)
+    (λ j f _ _. judged-sound s was n j f) (λ p _ charge _. add-sound s was n (e .account) (e .card) p charge) (abort-sound s was n)
 
 pub run-keeps-sound : (s : Ledger) (es : List Event) → Sound (s .table) → Sound (run s es .after .table)
 unfolding run

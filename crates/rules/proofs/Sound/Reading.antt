@@ -10,11 +10,11 @@ use mathlib.Core.List.{List}
 use lib.Dec.{eqb}
 use lib.ListN.{length}
 use Rattle.rules.specs.Card.{accountCount}
-use Rattle.rules.specs.Table.{hasEnd, width, committed, word, startedField, counterField, counter, parentField, stateField, stateOf, endField, readField, readEntry, withRead, hasRead, readTime, writeField, isLive}
+use Rattle.rules.specs.Table.{hasEnd, width, committed, word, startedField, counterField, counter, parentField, stateField, stateOf, endField, readField, readEntry, withRead, hasRead, readTime, writeField, pendingField, isLive}
 use Rattle.rules.specs.Sound.{IsStarted, Sound}
 use Rattle.rules.specs.Step.{readTable}
 use Rattle.rules.proofs.Laws.Words.{withWord-length, word-same, word-other-row, word-off-field}
-use Rattle.rules.proofs.Sound.TableChanges.{TableChange, quiet-change, writes-agree}
+use Rattle.rules.proofs.Sound.TableChanges.{TableChange, sum-stays, quiet-change, writes-agree}
 use Rattle.rules.proofs.Laws.Tests.{cond-holds}
 
 -- ---- the table after a read of account k by n
@@ -90,3 +90,6 @@ module _ (w : List ℕ) (n k : ℕ) (account : k < accountCount) where
         (λ m. read-keeps-field m parentField (omega arith) (λ z. omega arith))
         state-kept reads-in-time
         (λ m h e. inl (sym (end-kept m) ∙ e, read-keeps-field m endField (omega arith) (λ z. omega arith)))
+        (λ m j h charge.
+        sum-stays w (readTable w n k) m j (read-keeps-field m (writeField j) (omega arith) (λ z. omega arith))
+        (read-keeps-field m (pendingField j) (omega arith) (λ z. omega arith)))

@@ -3,17 +3,18 @@ use Prim.Native.Nat.{ℕ, _-_, _≤_, _<_}
 use native.Mathlib.Omega.{arith}
 use mathlib.Core.Path.{_≡_, sym, ap}
 use mathlib.Core.Logic.{_⊎_, ⊎-elim, ⊎-map}
-use mathlib.Core.Bool.{Bool, true, not, _&&_, _||_}
+use mathlib.Core.Bool.{Bool, true, false, not, _&&_, _||_}
 use mathlib.Core.List.{List}
-use borrow.Author.Tests.{ltb-true, ltb-false, leb-true, eqb-true, lt-ltb, le-leb, eq-eqb, not-true}
+use borrow.Author.Tests.{ltb-true, ltb-false, leb-true, eqb-true, lt-ltb, le-leb, eq-eqb, not-true, not-false}
 use lib.Dec.{leb, ltb, eqb}
 use lib.ListN.{length}
 use Rattle.rules.specs.Range.{all, count}
-use Rattle.rules.specs.Card.{accountCount, accounts}
-use Rattle.rules.specs.Table.{hasEnd, tableLength, mostActions, started, counter, parentOf, endTime, hasRead, readTime, isLive, isCommitted, actions}
-use Rattle.rules.specs.Sound.{hasState, hasParentBelow, hasParentAlive, hasReadInTime, hasEndInTime, sharesEndTime, hasEndAlone, isSoundAction, sound, IsStarted, Sound}
+use Rattle.rules.specs.Card.{accountCount, accounts, firstCharge, chargeCount, IsCharge, chargeAccounts}
+use Rattle.rules.specs.Table.{hasEnd, tableLength, mostActions, started, counter, parentOf, endTime, hasRead, readTime, writeEntry, hasWritten, pendingWord, isLive, isCommitted, actions}
+use Rattle.rules.specs.Sound.{hasState, hasParentBelow, hasParentAlive, hasReadInTime, hasEndInTime, sharesEndTime, hasEndAlone, hasPendingWritten, isSoundAction, sound, IsStarted, Sound}
 use Rattle.rules.proofs.Laws.Tests.{and-left, and-right, and-both, or-cases, or-inl, or-inr, test, implied, implies, not-both, false-of-not-true}
 use Rattle.rules.proofs.Laws.Ranges.{Within, all-at, all-of, count-at-most}
+use Rattle.rules.proofs.Laws.Sets.{charge-within}
 
 -- the started actions are the numbers of the run that the scans go over
 started-within : (w : List ℕ) (n : ℕ) → IsStarted w n → Within 1 (started w) n
@@ -103,6 +104,22 @@ module _ (w : List ℕ) (n : ℕ) where
           (eqb-true _ _ (and-right (hasEnd w m) _ pair))
           (eqb-true _ _ (and-right (hasEnd w m && eqb (parentOf w m) (parentOf w n)) _ t))))
 
+  PendingWritten : Type 0
+  PendingWritten = (k : ℕ) → IsCharge k → hasWritten w n k ≡ false → pendingWord w n k ≡ 0
+
+  pending-fact : hasPendingWritten w n ≡ true → PendingWritten
+  unfolding PendingWritten hasPendingWritten chargeAccounts
+  pending-fact h k charge none =
+      let fold : (hasWritten w n k || eqb (pendingWord w n k) 0) ≡ true =
+      all-at _ firstCharge chargeCount k h (charge-within charge) in
+      eqb-true _ _ (implied (eqb (writeEntry w n k) 0) _ fold (not-false _ none))
+
+  pending-test : PendingWritten → hasPendingWritten w n ≡ true
+  unfolding PendingWritten hasPendingWritten chargeAccounts
+  pending-test f =
+      all-of _ firstCharge chargeCount
+      (λ k h. implies (eqb (writeEntry w n k) 0) _ (λ none. eq-eqb _ _ (f k (omega arith) (ap not none))))
+
 -- ---- the whole
 
 -- the clauses of one action, as facts
@@ -113,6 +130,7 @@ record SoundAction (w : List ℕ) (n : ℕ) : Type 0 where
   reads : hasReadInTime w n ≡ true
   end : hasEndInTime w n ≡ true
   alone : hasEndAlone w n ≡ true
+  pendings : hasPendingWritten w n ≡ true
 
 module _ (w : List ℕ) (n : ℕ) where
   action-facts : isSoundAction w n ≡ true → SoundAction w n
@@ -124,7 +142,9 @@ module _ (w : List ℕ) (n : ℕ) where
       let d = hasReadInTime w n in
       let e = hasEndInTime w n in
       let f = hasEndAlone w n in
-      let t5 = and-left (a && b && c && d && e) f t in
+      let g = hasPendingWritten w n in
+      let t6 = and-left (a && b && c && d && e && f) g t in
+      let t5 = and-left (a && b && c && d && e) f t6 in
       let t4 = and-left (a && b && c && d) e t5 in
       let t3 = and-left (a && b && c) d t4 in
       let t2 = and-left (a && b) c t3 in
@@ -134,13 +154,16 @@ module _ (w : List ℕ) (n : ℕ) where
         alive = and-right (a && b) c t3;
         reads = and-right (a && b && c) d t4;
         end = and-right (a && b && c && d) e t5;
-        alone = and-right (a && b && c && d && e) f t;
+        alone = and-right (a && b && c && d && e) f t6;
+        pendings = and-right (a && b && c && d && e && f) g t;
       }
 
   action-tested : SoundAction w n → isSoundAction w n ≡ true
   unfolding isSoundAction
   action-tested s =
-      and-both (and-both (and-both (and-both (and-both (s .state) (s .below)) (s .alive)) (s .reads)) (s .end)) (s .alone)
+      and-both
+      (and-both (and-both (and-both (and-both (and-both (s .state) (s .below)) (s .alive)) (s .reads)) (s .end)) (s .alone))
+      (s .pendings)
 
 -- of two numbers one is the lower, or they are one
 by-order : (P : Type 0) (m n : ℕ) → (m < n → P) → (n < m → P) → (m ≡ n → P) → P
@@ -151,7 +174,7 @@ by-order P m n f g h =
 
 module _ (w : List ℕ) where
   pub facts : sound w ≡ true → Sound w
-  unfolding sound ParentAlive ReadsInTime EndInTime EndAlone
+  unfolding sound ParentAlive ReadsInTime EndInTime EndAlone PendingWritten
   facts t =
       let long = eqb (length w) tableLength in
       let few = leb (started w) mostActions in
@@ -176,10 +199,11 @@ module _ (w : List ℕ) where
             (λ lt. absurd (alone-fact w n (of n hn .alone) m (hm .0, lt) p q parents ends))
             (λ gt. absurd (alone-fact w m (of m hm .alone) n (hn .0, gt) q p (sym parents) (sym ends)))
             (λ e. e);
+        pendings = λ n k h. pending-fact w n (of n h .pendings) k;
       }
 
   tested-action : Sound w → (n : ℕ) → IsStarted w n → SoundAction w n
-  unfolding ParentAlive ReadsInTime EndInTime EndAlone
+  unfolding ParentAlive ReadsInTime EndInTime EndAlone PendingWritten
   tested-action s n h =
       record {
         state = s .states n h;
@@ -189,6 +213,7 @@ module _ (w : List ℕ) where
         end = end-test w n (s .ends n h);
         alone =
             alone-test w n (λ m lower p q parents ends. let same = s .alone n m h (omega arith) p q parents ends in omega arith);
+        pendings = pending-test w n (λ k. s .pendings n k h);
       }
 
   pub tested : Sound w → sound w ≡ true

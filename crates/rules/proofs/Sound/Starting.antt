@@ -5,21 +5,21 @@ use native.Mathlib.Decide.{ℕ-discrete}
 use native.Mathlib.Numerals.{add-one}
 use mathlib.Core.Path.{_≡_, refl, sym, ap, _∙_}
 use mathlib.Core.Logic.{_⊎_, inl, inr, ⊎-elim, _≢_}
-use mathlib.Core.Bool.{true}
+use mathlib.Core.Bool.{true, false}
 use mathlib.Core.List.{List}
 use borrow.Author.Tests.{eq-eqb}
 use lib.Dec.{eqb}
 use lib.ListN.{length}
 use Rattle.rules.specs.Range.{count}
-use Rattle.rules.specs.Card.{accountCount}
-use Rattle.rules.specs.Table.{hasEnd, width, tableLength, mostActions, live, committed, word, startedField, started, withStarted, counterField, counter, parentField, parentOf, withParent, stateField, stateOf, withState, endField, endTime, withEndTime, readField, readEntry, writeField, writeEntry, hasRead, readTime, isLive, isCommitted, actions}
+use Rattle.rules.specs.Card.{accountCount, IsCharge}
+use Rattle.rules.specs.Table.{hasEnd, width, tableLength, mostActions, live, committed, word, startedField, started, withStarted, counterField, counter, parentField, parentOf, withParent, stateField, stateOf, withState, endField, endTime, withEndTime, readField, readEntry, writeField, writeEntry, hasRead, readTime, hasWritten, pendingField, pendingWord, isLive, isCommitted, actions}
 use Rattle.rules.specs.Sound.{IsStarted, Sound}
 use Rattle.rules.specs.Step.{startTable}
 use Rattle.rules.proofs.Laws.Walking.{parent-known}
 use Rattle.rules.proofs.Laws.Tests.{and-left, not-both}
 use Rattle.rules.proofs.Laws.Ranges.{count-agree, count-snoc}
 use Rattle.rules.proofs.Laws.Words.{withWord-length, word-same, word-other-row, word-other-field}
-use Rattle.rules.proofs.Laws.Sets.{withSets-length, withSets-other-row, withSets-other-field, withSets-read, withSets-write}
+use Rattle.rules.proofs.Laws.Sets.{withSets-length, withSets-other-row, withSets-other-field, withSets-read, withSets-write, withSets-pending}
 use Rattle.rules.proofs.Sound.TableChanges.{writes-agree, live-uncommitted}
 
 module _ (w : List ℕ) (p : ℕ) where
@@ -27,7 +27,7 @@ module _ (w : List ℕ) (p : ℕ) where
   abbrev pub new : ℕ
   new = started w + 1
 
-  -- the table with the head, then the parent, then the state, then the end time put in; the sets come last
+  -- the table with the head, then the parent, then the state, then the end time put in; the sets and sums come last
   abbrev headed : List ℕ
   headed = withStarted w new
 
@@ -46,13 +46,13 @@ module _ (w : List ℕ) (p : ℕ) where
 
   pub start-length : length (startTable w p) ≡ length w
   unfolding startTable
-  start-length = withSets-length filled new _ _ ∙ filled-length
+  start-length = withSets-length filled new _ _ _ ∙ filled-length
 
   -- a row that is neither the head nor the new action's
   pub start-keeps-row : (m g : ℕ) → g < width → 1 ≤ m → m ≢ new → word (startTable w p) m g ≡ word w m g
   unfolding startTable
   start-keeps-row m g h one ne =
-      withSets-other-row filled new _ _ m g h ne
+      withSets-other-row filled new _ _ _ m g h ne
       ∙ word-other-row stated new m endField g 0 (omega arith) h ne
       ∙ word-other-row parented new m stateField g live (omega arith) h ne
       ∙ word-other-row headed new m parentField g p (omega arith) h ne
@@ -62,7 +62,7 @@ module _ (w : List ℕ) (p : ℕ) where
   head-from : (g : ℕ) → g < width → word (startTable w p) 0 g ≡ word headed 0 g
   unfolding startTable
   head-from g h =
-      withSets-other-row filled new _ _ 0 g h (λ z. omega arith)
+      withSets-other-row filled new _ _ _ 0 g h (λ z. omega arith)
       ∙ word-other-row stated new 0 endField g 0 (omega arith) h (λ z. omega arith)
       ∙ word-other-row parented new 0 stateField g live (omega arith) h (λ z. omega arith)
       ∙ word-other-row headed new 0 parentField g p (omega arith) h (λ z. omega arith)
@@ -90,7 +90,7 @@ module _ (w : List ℕ) (p : ℕ) where
     pub start-parent : parentOf (startTable w p) new ≡ p
     unfolding startTable
     start-parent =
-        withSets-other-field filled new _ _ parentField (omega arith)
+        withSets-other-field filled new _ _ _ parentField (omega arith)
         ∙ word-other-field stated new endField parentField 0 (λ z. omega arith)
         ∙ word-other-field parented new stateField parentField live (λ z. omega arith)
         ∙ word-same headed new parentField p headed-long (omega arith) (omega arith)
@@ -98,23 +98,27 @@ module _ (w : List ℕ) (p : ℕ) where
     pub start-state : stateOf (startTable w p) new ≡ live
     unfolding startTable
     start-state =
-        withSets-other-field filled new _ _ stateField (omega arith)
+        withSets-other-field filled new _ _ _ stateField (omega arith)
         ∙ word-other-field stated new endField stateField 0 (λ z. omega arith)
         ∙ word-same parented new stateField live parented-long (omega arith) (omega arith)
 
     pub start-end : endTime (startTable w p) new ≡ 0
     unfolding startTable
     start-end =
-        withSets-other-field filled new _ _ endField (omega arith)
+        withSets-other-field filled new _ _ _ endField (omega arith)
         ∙ word-same stated new endField 0 stated-long (omega arith) (omega arith)
 
     pub start-read : (k : ℕ) → k < accountCount → readEntry (startTable w p) new k ≡ 0
     unfolding startTable
-    start-read = withSets-read filled new _ _ filled-long (omega arith)
+    start-read = withSets-read filled new _ _ _ filled-long (omega arith)
 
     pub start-write : (k : ℕ) → k < accountCount → writeEntry (startTable w p) new k ≡ 0
     unfolding startTable
-    start-write = withSets-write filled new _ _ filled-long (omega arith)
+    start-write = withSets-write filled new _ _ _ filled-long (omega arith)
+
+    pub start-pending : (k : ℕ) → IsCharge k → pendingWord (startTable w p) new k ≡ 0
+    unfolding startTable
+    start-pending = withSets-pending filled new _ _ _ filled-long (omega arith)
 
 -- ---- the table stays sound
 
@@ -197,6 +201,11 @@ module _ (w : List ℕ) (p : ℕ) (s : Sound w) (room : started w < mostActions)
             (λ m h e. rw (old-row m endField h (omega arith), start-counter w p) (s .ends m h (rw (old-end m h) at e)))
             (λ e. absurd (new-no-end e));
         alone = ends-alone;
+        pendings =
+            λ m k h charge. by-age (λ x. hasWritten (startTable w p) x k ≡ false → pendingWord (startTable w p) x k ≡ 0)
+            (λ x hx none.
+            rw (old-row x (pendingField k) hx (omega arith)) (s .pendings x k hx charge (rw (old-row x (writeField k) hx (omega arith)) at none)))
+            (λ none. start-pending w p (s .long) room k charge) m h;
       }
     where
       store-or-live : Dec (p ≡ 0) → (p ≡ 0) ⊎ (isLive w p ≡ true)

@@ -4,16 +4,17 @@ use Prim.Native.Nat.{ℕ, _≤_, _<_}
 use native.Mathlib.Omega.{arith}
 use native.Mathlib.Decide.{ℕ-discrete}
 use native.Mathlib.Nat.{le-of-eq}
-use mathlib.Core.Path.{_≡_, sym, _∙_, ap, fun-ext}
-use mathlib.Core.Logic.{_⊎_, inl, inr, ⊎-elim}
-use mathlib.Core.Bool.{true, not}
+use mathlib.Core.Path.{_≡_, refl, sym, _∙_, ap, fun-ext}
+use mathlib.Core.Logic.{_⊎_, inl, inr, ⊎-elim, _≢_}
+use mathlib.Core.Bool.{true, false, not}
 use mathlib.Core.List.{List}
 use borrow.Author.Tests.{eqb-true}
 use lib.Dec.{eqb}
 use lib.ListN.{length}
 use Rattle.rules.specs.Range.{count}
-use Rattle.rules.specs.Card.{accountCount, accounts}
-use Rattle.rules.specs.Table.{hasEnd, tableLength, live, committed, writeEntry, hasWrites, started, counter, parentOf, stateOf, endTime, hasRead, readTime, isLive, isCommitted, actions}
+use Rattle.rules.specs.Card.{accountCount, accounts, IsCharge}
+use Rattle.rules.specs.Table.{hasEnd, tableLength, width, live, committed, word, writeFields, startedField, counterField, parentField, stateField, endField, readField, readEntry, writeField, writeEntry, entered, hasWritten, hasWrites, pendingField, pendingWord, started, counter, parentOf, stateOf, endTime, hasRead, readTime, isLive, isCommitted, actions}
+use Rattle.rules.proofs.Laws.Tests.{and-left, and-right, and-both, not-both}
 use Rattle.rules.proofs.Laws.Ranges.{any-agree}
 use Rattle.rules.specs.Sound.{hasState, IsStarted, Sound}
 
@@ -36,6 +37,15 @@ abbrev pub Ended : List ℕ → List ℕ → ℕ → ℕ → Type 0
 Ended w v now m =
     ((hasEnd w m ≡ true) × (endTime v m ≡ endTime w m)) ⊎ ((m ≡ now) × (endTime v m ≡ counter v) × (counter w < counter v))
 
+-- Where charge account k isn't in action m's write set in v it wasn't in w, and m's pending sum is as it was.
+abbrev pub SumStays : List ℕ → List ℕ → ℕ → ℕ → Type 0
+SumStays w v m k = hasWritten v m k ≡ false → (hasWritten w m k ≡ false) × (pendingWord v m k ≡ pendingWord w m k)
+
+-- so it is where neither word changes
+pub sum-stays :
+    (w v : List ℕ) (m k : ℕ) → writeEntry v m k ≡ writeEntry w m k → pendingWord v m k ≡ pendingWord w m k → SumStays w v m k
+sum-stays w v m k entry sum none = (rw entry at none, sum)
+
 -- The table v, after an event at table w in which action `now` may have ended.
 pub record TableChange (w v : List ℕ) (now : ℕ) : Type 0 where
   pub long : length v ≡ tableLength
@@ -49,6 +59,7 @@ pub record TableChange (w v : List ℕ) (now : ℕ) : Type 0 where
   pub parentStays : (m : ℕ) → IsStarted w m → isLive v m ≡ true → isLive w (parentOf w m) ≡ true → 1 ≤ parentOf w m → isLive v (parentOf w m) ≡ true
   pub reads : (m k : ℕ) → IsStarted w m → isLive v m ≡ true → k < accountCount → hasRead v m k ≡ true → readTime v m k ≤ counter v
   pub ends : (m : ℕ) → IsStarted w m → hasEnd v m ≡ true → Ended w v now m
+  pub pendings : (m k : ℕ) → IsStarted w m → IsCharge k → SumStays w v m k
 
 module _ (w v : List ℕ) (now : ℕ) (s : Sound w) (c : TableChange w v now) where
   -- the started actions are the same
@@ -85,6 +96,10 @@ module _ (w v : List ℕ) (now : ℕ) (s : Sound w) (c : TableChange w v now) wh
       go (inr a) (inl b) = absurd (omega (arith, s .ends m (before m hm) (b .0), b .1, a .1, a .2))
       go (inr a) (inr b) = b .0 ∙ sym (a .0)
 
+  pending-written : (m k : ℕ) → IsStarted v m → IsCharge k → hasWritten v m k ≡ false → pendingWord v m k ≡ 0
+  pending-written m k h charge none =
+      let was = c .pendings m k (before m h) charge none in was .1 ∙ s .pendings m k (before m h) charge (was .0)
+
   pub change-keeps-sound : Sound v
   change-keeps-sound =
       record {
@@ -97,6 +112,7 @@ module _ (w v : List ℕ) (now : ℕ) (s : Sound w) (c : TableChange w v now) wh
         reads = λ m k h. c .reads m k (before m h);
         ends = end-in-time;
         alone = end-alone;
+        pendings = pending-written;
       }
 
 -- A change that leaves the head, the parents and the states as they were.
@@ -105,9 +121,10 @@ pub quiet-change :
     ((m : ℕ) → parentOf v m ≡ parentOf w m) → ((m : ℕ) → stateOf v m ≡ stateOf w m) →
     ((m k : ℕ) → IsStarted w m → isLive v m ≡ true → k < accountCount → hasRead v m k ≡ true → readTime v m k ≤ counter v) →
     ((m : ℕ) → IsStarted w m → hasEnd v m ≡ true → Ended w v now m) →
+    ((m k : ℕ) → IsStarted w m → IsCharge k → SumStays w v m k) →
     TableChange w v now
 unfolding actions
-quiet-change w v now s len start count parents states reads ends =
+quiet-change w v now s len start count parents states reads ends pendings =
     record {
       long = len ∙ s .long;
       sameStarted = start;
@@ -119,7 +136,55 @@ quiet-change w v now s len start count parents states reads ends =
       parentStays = λ m h l q one. rw (states (parentOf w m)) q;
       reads = reads;
       ends = ends;
+      pendings = pendings;
     }
   where
     committed-kept : isCommitted v ≡ isCommitted w
     committed-kept = fun-ext (λ m. ap (λ x. eqb x committed) (states m))
+
+-- A change that enters account k in the write set of live action n, and may change n's pending sum for k.
+module _
+    (w v : List ℕ) (n k : ℕ) (s : Sound w) (alive : isLive w n ≡ true) (len : length v ≡ length w)
+    (fields : (m g : ℕ) → g < writeFields → word v m g ≡ word w m g)
+    (others : (m g : ℕ) → g < width → m ≢ n → word v m g ≡ word w m g)
+    (enters : writeEntry v n k ≡ entered)
+    (accounts-kept : (j : ℕ) → IsCharge j → j ≢ k → (writeEntry v n j ≡ writeEntry w n j) × (pendingWord v n j ≡ pendingWord w n j)) where
+  state-kept : (m : ℕ) → stateOf v m ≡ stateOf w m
+  state-kept m = fields m stateField (omega arith)
+
+  end-kept : (m : ℕ) → hasEnd v m ≡ true → Ended w v n m
+  end-kept m e = go (ℕ-discrete m n)
+    where
+      did : isCommitted w m ≡ true
+      did = rw (state-kept m) at (and-left (isCommitted v m) _ e)
+
+      go : Dec (m ≡ n) → Ended w v n m
+      go (yes same) = absurd (live-uncommitted w n alive (rw same at did))
+      go (no ne) =
+          inl (
+            and-both did (sym (writes-agree w v m (λ j h. others m (writeField j) (omega arith) ne)) ∙ and-right (isCommitted v m) _ e),
+            fields m endField (omega arith),
+          )
+
+  reads-kept :
+      (m j : ℕ) → IsStarted w m → isLive v m ≡ true → j < accountCount → hasRead v m j ≡ true → readTime v m j ≤ counter v
+  reads-kept m j h l hj r =
+      let entry : readEntry v m j ≡ readEntry w m j = fields m (readField j) (omega arith) in
+      rw (entry, fields 0 counterField (omega arith)) (s .reads m j h (rw (state-kept m) at l) hj (rw entry at r))
+
+  sums-stay : (m j : ℕ) → IsCharge j → SumStays w v m j
+  sums-stay m j charge = go (ℕ-discrete m n) (ℕ-discrete j k)
+    where
+      go : Dec (m ≡ n) → Dec (j ≡ k) → SumStays w v m j
+      go (no ne) _ = sum-stays w v m j (others m (writeField j) (omega arith) ne) (others m (pendingField j) (omega arith) ne)
+      go (yes same) (no ne) =
+          let kept = accounts-kept j charge ne in rw same (sum-stays w v n j (kept .0) (kept .1))
+      go (yes same) (yes it) = λ none. absurd (not-both (rw (same, it, enters) refl) none)
+
+  pub entering-change : TableChange w v n
+  entering-change =
+      quiet-change w v n s len
+      (fields 0 startedField (omega arith)) (fields 0 counterField (omega arith))
+      (λ m. fields m parentField (omega arith)) state-kept reads-kept
+      (λ m h. end-kept m)
+      (λ m j h. sums-stay m j)

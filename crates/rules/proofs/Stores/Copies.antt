@@ -1,4 +1,5 @@
--- The cards of an action's write set copied to another place: what stands in the store then. Assumes nothing.
+-- Cards in line in a store, and the cards of some accounts put at their places there: what stands in the store then.
+-- Assumes nothing.
 use Prim.Native.Nat.{ℕ, _+_, _-_, _*_, _≤_, _<_}
 use native.Mathlib.Omega.{arith}
 use native.Mathlib.Decide.{decLt}
@@ -7,13 +8,16 @@ use mathlib.Core.Logic.{_⊎_, inl, inr, _≢_}
 use mathlib.Core.Bool.{Bool, true, false, cond}
 use mathlib.Core.List.{List}
 use lib.ListN.{length, getD}
-use Rattle.rules.specs.Card.{accountCount, accounts, cardLength, baseLength, shadowLength, basePlace, shadowPlace, cardAt, withCard, cardsPlace}
-use Rattle.rules.specs.Table.{mostActions, hasWritten}
-use Rattle.rules.specs.Step.{copyCards}
+use Rattle.rules.specs.Amount.{amountLength}
+use Rattle.rules.specs.Card.{accountCount, accounts, isCharge, IsCard, cardLength, baseLength, shadowLength, basePlace, shadowPlace, cardAt, withCard, cardsPlace}
+use Rattle.rules.specs.Table.{mostActions}
+use Rattle.rules.specs.Ledger.{Ledger}
+use Rattle.rules.specs.Step.{putCards, settledCard}
 use Rattle.rules.proofs.Laws.Tests.{cond-holds}
 use Rattle.rules.proofs.Laws.Ranges.{Within, fold-keeps, fold-changes}
 use Rattle.rules.proofs.Laws.Sets.{account-within}
-use Rattle.rules.proofs.Laws.Cards.{Fits, Outside, Apart, cardAt-length, withCard-length, withCard-outside, cardAt-same, cardAt-apart}
+use Rattle.rules.proofs.Laws.Cards.{Fits, Apart, cardAt-length, withCard-length, withCard-outside, withCard-inside, cardAt-same, cardAt-apart}
+use Rattle.rules.proofs.Laws.Amounts.{withAmount-length, byte-behind-amount}
 
 -- ---- cards in line: those of the store, or of one action
 
@@ -59,108 +63,133 @@ module _ {place : ℕ → ℕ} {store : List ℕ} (line : Line place store) wher
       by-order (yes lower) = inr (omega (arith, line .stands j, line .stands k))
       by-order (no higher) = inl (omega (arith, line .stands j, line .stands k))
 
--- ---- the copies
+-- the card of an account where cards stand in line is a whole one
+pub line-card : {place : ℕ → ℕ} {store : List ℕ} → Line place store → (k : ℕ) → k < accountCount → IsCard (cardAt store (place k))
+line-card {place} {store} line k h = cardAt-length store (place k) (line-fits line k h)
+
+-- ---- the cards of some accounts put at their places in a line
 
 module _
-    (w : List ℕ) (n : ℕ) (shadow : List ℕ) (source : Line (shadowPlace n) shadow)
-    (place : ℕ → ℕ) (to : List ℕ) (target : Line place to) where
-  card-length : (k : ℕ) → k < accountCount → length (cardAt shadow (shadowPlace n k)) ≡ cardLength
-  card-length k h = cardAt-length shadow (shadowPlace n k) (line-fits source k h)
-
+    (chosen : ℕ → Bool) (card : ℕ → List ℕ) (place : ℕ → ℕ) (to : List ℕ)
+    (whole : (k : ℕ) → k < accountCount → IsCard (card k)) (target : Line place to) where
   -- a store as long as `to` has room for the cards too
   fits-as-long : (k : ℕ) → k < accountCount → (s : List ℕ) → length s ≡ length to → Fits s (place k)
   fits-as-long k h s e = rw e (line-fits target k h)
 
-  -- what the copy of account k, made or not, leaves of a store
-  copy-one : ℕ → List ℕ → List ℕ
-  copy-one k s = cond (hasWritten w n k) (withCard s (place k) (cardAt shadow (shadowPlace n k))) s
+  -- what account k, chosen or not, leaves of a store
+  put-one : ℕ → List ℕ → List ℕ
+  put-one k s = cond (chosen k) (withCard s (place k) (card k)) s
 
-  -- what the copy keeps, if it is made
-  copy-one-keeps :
-      (P : List ℕ → Type 0) (k : ℕ) (s : List ℕ) →
-      (hasWritten w n k ≡ true → P (withCard s (place k) (cardAt shadow (shadowPlace n k)))) → P s → P (copy-one k s)
-  unfolding copy-one
-  copy-one-keeps P k s keeps p = cond-holds P (hasWritten w n k) keeps (λ _. p)
+  -- what putting the card keeps, if it is put
+  put-one-keeps :
+      (P : List ℕ → Type 0) (k : ℕ) (s : List ℕ) → (chosen k ≡ true → P (withCard s (place k) (card k))) → P s → P (put-one k s)
+  unfolding put-one
+  put-one-keeps P k s keeps p = cond-holds P (chosen k) keeps (λ _. p)
 
-  copy-one-length : (k : ℕ) → k < accountCount → (s : List ℕ) → length s ≡ length to → length (copy-one k s) ≡ length to
-  copy-one-length k h s e =
-      copy-one-keeps (λ t. length t ≡ length to) k s
-      (λ _. withCard-length s (place k) (cardAt shadow (shadowPlace n k)) (fits-as-long k h s e) (card-length k h) ∙ e) e
+  put-one-length : (k : ℕ) → k < accountCount → (s : List ℕ) → length s ≡ length to → length (put-one k s) ≡ length to
+  put-one-length k h s e =
+      put-one-keeps (λ t. length t ≡ length to) k s
+      (λ _. withCard-length s (place k) (card k) (fits-as-long k h s e) (whole k h) ∙ e) e
 
-  pub copyCards-length : length (copyCards w n shadow place to) ≡ length to
-  unfolding copyCards accounts copy-one
-  copyCards-length = fold-keeps (λ s. length s ≡ length to) copy-one 0 accountCount (λ k h. copy-one-length k (omega arith)) to refl
+  pub putCards-length : length (putCards chosen card place to) ≡ length to
+  unfolding putCards accounts put-one
+  putCards-length = fold-keeps (λ s. length s ≡ length to) put-one 0 accountCount (λ k h. put-one-length k (omega arith)) to refl
 
-  -- what each copy that is made keeps, all of them keep
-  copies-keep :
+  -- what each card that is put keeps, all of them keep
+  puts-keep :
       (P : List ℕ → Type 0) →
-      ((k : ℕ) → k < accountCount → hasWritten w n k ≡ true → (s : List ℕ) → length s ≡ length to → P s →
-      P (withCard s (place k) (cardAt shadow (shadowPlace n k)))) →
-      P to → P (copyCards w n shadow place to)
-  unfolding copyCards accounts copy-one
-  copies-keep P keeps p = fold-keeps (λ s. (length s ≡ length to) × P s) copy-one 0 accountCount keeps-both to (refl, p) .1
+      ((k : ℕ) → k < accountCount → chosen k ≡ true → (s : List ℕ) → length s ≡ length to → P s →
+      P (withCard s (place k) (card k))) →
+      P to → P (putCards chosen card place to)
+  unfolding putCards accounts put-one
+  puts-keep P keeps p = fold-keeps (λ s. (length s ≡ length to) × P s) put-one 0 accountCount keeps-both to (refl, p) .1
     where
       keeps-both :
           (k : ℕ) → Within 0 accountCount k → (s : List ℕ) → (length s ≡ length to) × P s →
-          (length (copy-one k s) ≡ length to) × P (copy-one k s)
+          (length (put-one k s) ≡ length to) × P (put-one k s)
       keeps-both k h s (e, q) =
-          (copy-one-length k (omega arith) s e, copy-one-keeps P k s (λ written. keeps k (omega arith) written s e q) q)
+          (put-one-length k (omega arith) s e, put-one-keeps P k s (λ put. keeps k (omega arith) put s e q) q)
 
-  -- a byte that lies in no card that is copied
-  pub copyCards-outside :
-      (i : ℕ) → ((k : ℕ) → k < accountCount → hasWritten w n k ≡ true → Outside (place k) i) →
-      getD (copyCards w n shadow place to) i 0 ≡ getD to i 0
-  copyCards-outside i outside =
-      copies-keep (λ s. getD s i 0 ≡ getD to i 0)
-      (λ k h written s e p. withCard-outside s (place k) _ (fits-as-long k h s e) (card-length k h) i (outside k h written) ∙ p)
-      refl
-
-  -- a card that stands apart from each that is copied
-  pub copyCards-apart :
-      (other : ℕ) → Fits to other →
-      ((k : ℕ) → k < accountCount → hasWritten w n k ≡ true → Apart (place k) other) →
-      cardAt (copyCards w n shadow place to) other ≡ cardAt to other
-  copyCards-apart other fits apart =
-      copies-keep (λ s. cardAt s other ≡ cardAt to other)
-      (λ k h written s e p.
-      cardAt-apart s (place k) _ (fits-as-long k h s e) (card-length k h) other (rw e fits) (apart k h written) ∙ p)
-      refl
-
-  -- the copy of account k, at its own place and at another account's
-  copy-one-same :
-      (k : ℕ) → k < accountCount → (s : List ℕ) → length s ≡ length to →
-      cardAt (copy-one k s) (place k) ≡ cond (hasWritten w n k) (cardAt shadow (shadowPlace n k)) (cardAt s (place k))
-  unfolding copy-one
-  copy-one-same k h s e = by-test (hasWritten w n k)
+  -- a byte that each card which is put over it leaves as it was
+  pub putCards-byte :
+      (i : ℕ) →
+      ((k j : ℕ) → k < accountCount → chosen k ≡ true → j < cardLength → place k + j ≡ i → getD (card k) j 0 ≡ getD to i 0) →
+      getD (putCards chosen card place to) i 0 ≡ getD to i 0
+  putCards-byte i leaves = puts-keep (λ s. getD s i 0 ≡ getD to i 0) keeps refl
     where
-      by-test :
-          (b : Bool) →
-          cardAt (cond b (withCard s (place k) (cardAt shadow (shadowPlace n k))) s) (place k)
-          ≡ cond b (cardAt shadow (shadowPlace n k)) (cardAt s (place k))
-      by-test true = cardAt-same s (place k) (cardAt shadow (shadowPlace n k)) (fits-as-long k h s e) (card-length k h)
+      keeps :
+          (k : ℕ) → k < accountCount → chosen k ≡ true → (s : List ℕ) → length s ≡ length to → getD s i 0 ≡ getD to i 0 →
+          getD (withCard s (place k) (card k)) i 0 ≡ getD to i 0
+      keeps k h put s e same = by-place (decLt i (place k)) (decLt i (place k + cardLength))
+        where
+          fits : Fits s (place k)
+          fits = fits-as-long k h s e
+
+          by-place :
+              Dec (i < place k) → Dec (i < place k + cardLength) → getD (withCard s (place k) (card k)) i 0 ≡ getD to i 0
+          by-place (yes before) _ = withCard-outside s (place k) (card k) fits (whole k h) i (inl before) ∙ same
+          by-place (no _) (no behind) = withCard-outside s (place k) (card k) fits (whole k h) i (inr (omega arith)) ∙ same
+          by-place (no above) (yes below) =
+              let at : place k + (i - place k) ≡ i = omega arith in
+              let inside = withCard-inside s (place k) (card k) fits (whole k h) (i - place k) (omega arith) in
+              rw at at (inside ∙ leaves k (i - place k) h put (omega arith) at)
+
+  -- a card that stands apart from each that is put
+  pub putCards-apart :
+      (other : ℕ) → Fits to other → ((k : ℕ) → k < accountCount → chosen k ≡ true → Apart (place k) other) →
+      cardAt (putCards chosen card place to) other ≡ cardAt to other
+  putCards-apart other fits apart =
+      puts-keep (λ s. cardAt s other ≡ cardAt to other)
+      (λ k h put s e p.
+      cardAt-apart s (place k) (card k) (fits-as-long k h s e) (whole k h) other (rw e fits) (apart k h put) ∙ p)
+      refl
+
+  -- account k, at its own place and at another account's
+  put-one-same :
+      (k : ℕ) → k < accountCount → (s : List ℕ) → length s ≡ length to →
+      cardAt (put-one k s) (place k) ≡ cond (chosen k) (card k) (cardAt s (place k))
+  unfolding put-one
+  put-one-same k h s e = by-test (chosen k)
+    where
+      by-test : (b : Bool) → cardAt (cond b (withCard s (place k) (card k)) s) (place k) ≡ cond b (card k) (cardAt s (place k))
+      by-test true = cardAt-same s (place k) (card k) (fits-as-long k h s e) (whole k h)
       by-test false = refl
 
-  copy-one-other :
+  put-one-other :
       (j k : ℕ) → j < accountCount → k < accountCount → j ≢ k → (s : List ℕ) → length s ≡ length to →
-      cardAt (copy-one j s) (place k) ≡ cardAt s (place k)
-  copy-one-other j k hj hk ne s e =
-      copy-one-keeps (λ t. cardAt t (place k) ≡ cardAt s (place k)) j s
+      cardAt (put-one j s) (place k) ≡ cardAt s (place k)
+  put-one-other j k hj hk ne s e =
+      put-one-keeps (λ t. cardAt t (place k) ≡ cardAt s (place k)) j s
       (λ _.
-      cardAt-apart s (place j) (cardAt shadow (shadowPlace n j)) (fits-as-long j hj s e) (card-length j hj)
-      (place k) (fits-as-long k hk s e) (line-apart target j k ne))
+      cardAt-apart s (place j) (card j) (fits-as-long j hj s e) (whole j hj) (place k) (fits-as-long k hk s e)
+      (line-apart target j k ne))
       refl
 
-  -- the card of account k: copied if the account is in the write set, else as it stood
-  pub copyCards-card :
+  -- the card of account k: the one put if the account is chosen, else as it stood
+  pub putCards-card :
       (k : ℕ) → k < accountCount →
-      cardAt (copyCards w n shadow place to) (place k)
-      ≡ cond (hasWritten w n k) (cardAt shadow (shadowPlace n k)) (cardAt to (place k))
-  unfolding copyCards accounts copy-one
-  copyCards-card k h =
-      fold-changes (λ s. length s ≡ length to) (λ s. cardAt s (place k))
-      (cond (hasWritten w n k) (cardAt shadow (shadowPlace n k)))
-      copy-one 0 accountCount k
-      (λ j r. copy-one-length j (omega arith))
-      (copy-one-same k h)
-      (λ j r. copy-one-other j k (omega arith) h)
+      cardAt (putCards chosen card place to) (place k) ≡ cond (chosen k) (card k) (cardAt to (place k))
+  unfolding putCards accounts put-one
+  putCards-card k h =
+      fold-changes (λ s. length s ≡ length to) (λ s. cardAt s (place k)) (cond (chosen k) (card k)) put-one 0 accountCount k
+      (λ j r. put-one-length j (omega arith))
+      (put-one-same k h)
+      (λ j r. put-one-other j k (omega arith) h)
       (account-within h) to refl
+
+-- ---- the cards that a commit puts into the base store
+
+-- of a charge account's card only the amount is another
+pub settledCard-behind :
+    (s : Ledger) (n k : ℕ) → isCharge k ≡ true → (j : ℕ) → amountLength ≤ j →
+    getD (settledCard s n k) j 0 ≡ getD (cardAt (s .base) (basePlace k)) j 0
+unfolding settledCard
+settledCard-behind s n k charge j far = rw charge (byte-behind-amount (cardAt (s .base) (basePlace k)) _ j far)
+
+-- they are whole
+pub settledCard-length :
+    (s : Ledger) (n : ℕ) → Line (shadowPlace n) (s .shadow) → Line basePlace (s .base) → (k : ℕ) → k < accountCount →
+    IsCard (settledCard s n k)
+unfolding settledCard
+settledCard-length s n own store k h =
+    cond-holds (λ c. IsCard c) (isCharge k) (λ _. withAmount-length _ _ (line-card store k h)) (λ _. line-card own k h)

@@ -1,62 +1,166 @@
--- What a read answers is the nearest version by its meaning, whatever the ledger and the event. Assumes nothing.
-use mathlib.Core.Path.{_≡_, refl, sym, ap, _∙_}
-use mathlib.Core.Bool.{Bool, true, false, false≢true}
-use Rattle.rules.specs.declared.Answer.{Answer}
-use Rattle.rules.specs.declared.Answer.the-variants.{Read}
+-- What a read answers is the nearest version by its meaning, and what a look shows, whatever the ledger and the event; and of a
+-- charge account the sum, exactly. Assumes nothing.
+use Prim.Native.Nat.{ℕ}
+use mathlib.Core.Path.{_≡_, refl, sym, ap, ap₂, _∙_}
+use mathlib.Core.Bool.{Bool, true, false, cond, false≢true}
+use borrow.Author.Tests.{eqb-true}
+use Rattle.rules.specs.declared.Answer.the-variants.{Read, ReadSum}
 use Rattle.rules.specs.declared.Found.{Found}
 use Rattle.rules.specs.declared.Found.the-variants.{Nothing, At}
 use Rattle.rules.specs.declared.Version.{Version}
-use Rattle.rules.specs.Event.{Event}
+use Rattle.rules.specs.Card.{isCharge, basePlace, cardAt}
+use Rattle.rules.specs.Amount.{amountOf, amountWord}
+use Rattle.rules.specs.Event.{Event, readCode, eventOf, isRead}
 use Rattle.rules.specs.Ledger.{Ledger}
-use Rattle.rules.specs.Nearest.{version, IsNearest}
+use Rattle.rules.specs.Cause.{causeOf}
+use Rattle.rules.specs.Nearest.{version, readSum, IsNearest}
+use Rattle.rules.specs.Look.{lookCause, lookAt, look, lookedCard}
 use Rattle.rules.specs.Clash.{firstClash}
-use Rattle.rules.specs.Serial.Told.{Told, itBegan, itRead, itWrote, itCommitted, itDidNothing, told}
-use Rattle.rules.specs.Step.{Outcome, start, read, write, judged, commit, abort, step}
+use Rattle.rules.specs.Serial.Told.{Told, itBegan, itRead, itWrote, itAdded, itCommitted, itDidNothing, told}
+use Rattle.rules.specs.Step.{Outcome, start, readAnswer, read, write, judged, commit, add, abort, step}
+use Rattle.rules.proofs.Laws.Allowed.{allowed-none}
 use Rattle.rules.proofs.Laws.EventCases.{AllowedIn, step-by-cause, act-by-kind}
+use Rattle.rules.proofs.Laws.Permitted.{read-fits, read-sum-fits}
+use Rattle.rules.proofs.Laws.Walking.{Climbs, sound-climbs, depth}
 use Rattle.rules.proofs.Laws.Versions.{version-nearest}
+use Rattle.rules.proofs.Laws.Charges.{nearest-charge, movesUp-charge}
+use Rattle.rules.proofs.Laws.Amounts.{amount-read-back}
 use Rattle.rules.proofs.Sound.Soundness.{facts}
+use Rattle.rules.proofs.Stores.Looking.{look-refused-as-read, look-given, lookedCard-charge}
+
+-- ---- only a read that isn't refused is answered as one
 
 -- of what an answer tells, whether it is a read
 abbrev tellsRead : Told → Bool
 tellsRead (itBegan n) = false
 tellsRead itRead = true
 tellsRead itWrote = false
+tellsRead itAdded = false
 tellsRead itCommitted = false
 tellsRead itDidNothing = false
 
-module _ (s : Ledger) (e : Event) (v : Version) where
-  -- where an outcome's answer is `read` with v's numbers, v is the nearest version
-  abbrev NamesNearest : Outcome → Type 0
-  NamesNearest o = o .answer ≡ Read (v .holder) (v .moves) → IsNearest (s .table) (e .number) (e .account) v
+module _ (s : Ledger) (e : Event) where
+  -- an outcome whose answer tells of a read is that of a read
+  abbrev OfRead : Outcome → Type 0
+  OfRead o =
+      tellsRead (told (o .answer)) ≡ true →
+      AllowedIn s e × (isRead e ≡ true) × (o .answer ≡ readAnswer (s .table) (s .base) (e .number) (e .account))
 
-  -- an answer that tells of no read is another one
-  other-kind : (a : Answer) → tellsRead (told a) ≡ false → a ≡ Read (v .holder) (v .moves) → ⊥
-  other-kind a other is = false≢true (sym other ∙ ap (λ x. tellsRead (told x)) is)
-
-  read-nearest : AllowedIn s e → NamesNearest (read s (e .number) (e .account))
-  unfolding read
-  read-nearest allowed is =
-      let found = version (s .table) (e .number) (e .account) in
-      let holders : found .holder ≡ v .holder = cc in
-      let moves : found .moves ≡ v .moves = cc in
-      rw (← holders, ← moves)
-      (version-nearest (s .table) (facts (s .table) (allowed .soundTest)) (e .number) (e .account) (allowed .numberKnown))
-
-  judged-other : (f : Found) → NamesNearest (judged s (e .number) f)
+  judged-other : (f : Found) → OfRead (judged s (e .number) f)
   unfolding judged
-  judged-other Nothing is = absurd (other-kind _ refl is)
-  judged-other (At t k) is = absurd (other-kind _ refl is)
+  judged-other Nothing tells = absurd (false≢true tells)
+  judged-other (At t k) tells = absurd (false≢true tells)
 
-  -- RULES 2.3 and 3.1
-  pub read-answers-nearest :
-      step s e .answer ≡ Read (v .holder) (v .moves) → IsNearest (s .table) (e .number) (e .account) v
-  unfolding start write commit abort
-  read-answers-nearest =
-      step-by-cause s e NamesNearest
-      (λ is. absurd (other-kind _ refl is))
-      (λ allowed. act-by-kind s e NamesNearest
-      (λ _ is. absurd (other-kind _ refl is))
-      (λ _. read-nearest allowed)
-      (λ _ is. absurd (other-kind _ refl is))
+  of-read : OfRead (step s e)
+  unfolding start read write commit add abort
+  of-read =
+      step-by-cause s e OfRead
+      (λ tells. absurd (false≢true tells))
+      (λ a. act-by-kind s e OfRead
+      (λ _ tells. absurd (false≢true tells))
+      (λ reads _. (a, reads, refl))
+      (λ _ tells. absurd (false≢true tells))
       (λ _. judged-other (firstClash (s .table) (e .number)))
-      (λ _ is. absurd (other-kind _ refl is)))
+      (λ _ tells. absurd (false≢true tells))
+      (λ _ tells. absurd (false≢true tells)))
+
+-- ---- the two kinds of answers
+
+module _ (u v : Version) (x : ℕ) where
+  same-version : u .holder ≡ v .holder → u .moves ≡ v .moves → u ≡ v
+  same-version holders moves = ap₂ (λ h m. record { holder = h; moves = m }) holders moves
+
+  plain-chosen :
+      (b : Bool) → cond b (ReadSum (u .holder) (u .moves) x) (Read (u .holder) (u .moves)) ≡ Read (v .holder) (v .moves) → u ≡ v
+  plain-chosen true is = let apart : false ≡ true = cc in absurd (false≢true apart)
+  plain-chosen false is =
+      let holders : u .holder ≡ v .holder = cc in
+      let moves : u .moves ≡ v .moves = cc in
+      same-version holders moves
+
+  sum-chosen :
+      (y : ℕ) (b : Bool) →
+      cond b (ReadSum (u .holder) (u .moves) x) (Read (u .holder) (u .moves)) ≡ ReadSum (v .holder) (v .moves) y →
+      (b ≡ true) × (u ≡ v) × (x ≡ y)
+  sum-chosen y true is =
+      let holders : u .holder ≡ v .holder = cc in
+      let moves : u .moves ≡ v .moves = cc in
+      let sums : x ≡ y = cc in
+      (refl, same-version holders moves, sums)
+  sum-chosen y false is = let apart : false ≡ true = cc in absurd (false≢true apart)
+
+-- ---- RULES 2.3 and 3.1: what is answered
+
+-- a look on the same ledger isn't refused
+read-looked :
+    (s : Ledger) (e : Event) → AllowedIn s e → isRead e ≡ true →
+    lookCause (s .table) (s .base) (s .shadow) (e .number) (e .account) ≡ 0
+read-looked s e a reads =
+    look-refused-as-read (s .table) (s .base) (s .shadow) (e .number) (e .account) (e .card)
+    ∙ ap (λ code. causeOf (s .table) (s .base) (s .shadow) (eventOf code (e .number) (e .account) (e .card)))
+    (sym (eqb-true (e .code) readCode reads))
+    ∙ allowed-none (s .table) (s .base) (s .shadow) e a
+
+module _ (s : Ledger) (e : Event) (v : Version) where
+  -- the version that an answer names is the nearest, and a look shows it
+  abbrev Named : Type 0
+  Named =
+      IsNearest (s .table) (e .number) (e .account) v
+      × (look (s .table) (s .base) (s .shadow) (e .number) (e .account) ≡ lookAt v (e .account))
+
+  named : AllowedIn s e → isRead e ≡ true → version (s .table) (e .number) (e .account) ≡ v → Named
+  named a reads same =
+      rw (← same) (
+        version-nearest (s .table) (facts (s .table) (a .soundTest)) (e .number) (e .account) (a .early .numberKnown),
+        look-given (s .table) (s .base) (s .shadow) (e .number) (e .account) (read-looked s e a reads),
+      )
+
+  plain-named : step s e .answer ≡ Read (v .holder) (v .moves) → Named
+  unfolding readAnswer
+  plain-named is =
+      let (a, reads, answer) = of-read s e (rw is) in
+      named a reads (plain-chosen _ v _ (isCharge (e .account)) (sym answer ∙ is))
+
+  pub read-answers-nearest : step s e .answer ≡ Read (v .holder) (v .moves) → IsNearest (s .table) (e .number) (e .account) v
+  read-answers-nearest is = plain-named is .0
+
+  pub read-answers-look :
+      step s e .answer ≡ Read (v .holder) (v .moves) →
+      look (s .table) (s .base) (s .shadow) (e .number) (e .account) ≡ lookAt v (e .account)
+  read-answers-look is = plain-named is .1
+
+-- RULES 3.4: version v and word x, as a read by n of charge account k answers them: the base card, as many moves up as n lies
+-- deep, and the sum, exactly; a look shows that card
+pub record IsSumRead (s : Ledger) (n k : ℕ) (v : Version) (x : ℕ) : Type 0 where
+  pub charge : isCharge k ≡ true
+  pub near : IsNearest (s .table) n k v
+  pub looked : look (s .table) (s .base) (s .shadow) n k ≡ lookAt v k
+  pub card : lookedCard (s .table) (s .base) (s .shadow) n k ≡ cardAt (s .base) (basePlace k)
+  pub holder : v .holder ≡ 0
+  pub moves : v .moves ≡ depth (s .table) n
+  pub word : x ≡ amountWord (readSum (s .table) (s .base) n k)
+  pub exact : amountOf x ≡ readSum (s .table) (s .base) n k
+
+pub read-answers-sum :
+    (s : Ledger) (e : Event) (v : Version) (x : ℕ) → step s e .answer ≡ ReadSum (v .holder) (v .moves) x →
+    IsSumRead s (e .number) (e .account) v x
+unfolding readAnswer
+read-answers-sum s e v x is =
+    let w = s .table in
+    let n = e .number in
+    let k = e .account in
+    let (a, reads, answer) = of-read s e (rw is) in
+    let (charge, same, word) = sum-chosen (version w n k) v (amountWord (readSum w (s .base) n k)) x (isCharge k) (sym answer ∙ is) in
+    let up : Climbs w n = sound-climbs (facts w (a .soundTest)) n (a .early .numberKnown) in
+    let (near, looked) = named s e v a reads same in
+    let fits = read-sum-fits w (s .base) n k (read-fits a reads) charge in
+    record {
+      charge = charge;
+      near = near;
+      looked = looked;
+      card = lookedCard-charge w (s .base) (s .shadow) n k (read-looked s e a reads) charge;
+      holder = ap (λ (u : Version). u .holder) (sym same) ∙ nearest-charge w k charge n up;
+      moves = ap (λ (u : Version). u .moves) (sym same) ∙ movesUp-charge w k charge n up;
+      word = sym word;
+      exact = ap amountOf (sym word) ∙ amount-read-back (readSum w (s .base) n k) fits;
+    }

@@ -2,14 +2,14 @@
 -- Assumes nothing.
 use Prim.Native.Nat.{ℕ, suc}
 use mathlib.Core.Bool.{cond}
-use mathlib.Core.Option.{some}
 use mathlib.Core.List.{List, [], _∷_}
 use lib.Dec.{eqb}
 use Rattle.rules.specs.declared.Answer.{Answer}
+use Rattle.rules.specs.Amount.{amountIn}
 use Rattle.rules.specs.Event.{Event}
-use Rattle.rules.specs.Serial.Effect.{Effect}
+use Rattle.rules.specs.Serial.Effect.{Effect, puts, adds}
 use Rattle.rules.specs.Serial.Block.{Block, empty, read, write, child}
-use Rattle.rules.specs.Serial.Told.{Told, itBegan, itRead, itWrote, itCommitted, itDidNothing, told}
+use Rattle.rules.specs.Serial.Told.{Told, itBegan, itRead, itWrote, itAdded, itCommitted, itDidNothing, told}
 
 -- f with v at n
 unfoldable pub put : {A : Type 0} → (ℕ → A) → ℕ → A → ℕ → A
@@ -37,19 +37,23 @@ commitsAt e itCommitted = e .number ∷ []
 commitsAt e (itBegan n) = []
 commitsAt e itRead = []
 commitsAt e itWrote = []
+commitsAt e itAdded = []
 commitsAt e itDidNothing = []
 
 unfoldable pub laidAll : ℕ → Known → List ℕ → Known
 laidAll i c [] = c
 laidAll i c (n ∷ ns) = laidAll i (laid i c n) ns
 
--- an action's own step at place i: a start, a read or a write that took place
+-- action n's block grows to d
+abbrev pub grown : Known → ℕ → Block Effect → Known
+grown c n d = record { parent = c .parent; block = put (c .block) n d }
+
+-- an action's own step at place i: a start, a read, a write or an add that took place
 unfoldable pub stepped : ℕ → Event → Told → Known → Known
 stepped i e (itBegan n) c = begun c n (e .number)
-stepped i e itRead c =
-    record { parent = c .parent; block = put (c .block) (e .number) (read (c .block (e .number)) i (e .account)) }
-stepped i e itWrote c =
-    record { parent = c .parent; block = put (c .block) (e .number) (write (c .block (e .number)) i (e .account) (some (e .card))) }
+stepped i e itRead c = grown c (e .number) (read (c .block (e .number)) i (e .account))
+stepped i e itWrote c = grown c (e .number) (write (c .block (e .number)) i (e .account) (puts (e .card)))
+stepped i e itAdded c = grown c (e .number) (write (c .block (e .number)) i (e .account) (adds (amountIn (e .card))))
 stepped i e itCommitted c = c
 stepped i e itDidNothing c = c
 

@@ -2,9 +2,13 @@
 use Prim.Native.Nat.{ℕ, suc}
 use mathlib.Core.Path.{_≡_}
 use mathlib.Core.Bool.{true}
+use mathlib.Core.Option.{Option}
 use mathlib.Core.List.{List, [], List·Memᴰ}
+use lib.IntN.{ℤ}
 use lib.ListN.{length, take, getD}
 use Rattle.rules.specs.declared.Answer.{Answer}
+use Rattle.rules.specs.declared.Answer.the-variants.{Written}
+use Rattle.rules.specs.Answer.{said}
 use Rattle.rules.specs.Table.{newTable}
 use Rattle.rules.specs.Event.{Event, startUnder}
 use Rattle.rules.specs.Look.{lookedCard}
@@ -30,15 +34,23 @@ newOver base shadow = record { table = newTable; base = base; shadow = shadow }
 abbrev pub answersTo : List ℕ → List ℕ → List Event → List Answer
 answersTo base shadow es = run (newOver base shadow) es .answers
 
+-- RULES 5: the sum in the answer at place i, where it has one
+abbrev pub sumGiven : List Answer → ℕ → Option ℤ
+sumGiven answers i = said (getD answers i Written) .sum
+
 -- What is claimed of the list S = es, given to a new table over the stores base and shadow.
 pub record Demand3 (base shadow : List ℕ) (es : List Event) : Type 0 where
   -- the serial run gives each of its reads the card that this read was given in S
   pub reads :
       (g : Given) → List·Memᴰ g (serial es (answersTo base shadow es) base .given) →
       g .card ≡ cardGiven (newOver base shadow) es (g .place)
+  -- and, on a charge account, the amount
+  pub amounts :
+      (g : Given) → List·Memᴰ g (serial es (answersTo base shadow es) base .given) →
+      g .amount ≡ sumGiven (answersTo base shadow es) (g .place)
   -- it leaves the base store that stands after S
   pub store : serial es (answersTo base shadow es) base .base ≡ run (newOver base shadow) es .after .base
-  -- its operations hold, at each place of S, the read or write that took place there if that was an action's in R, and
+  -- its operations hold, at each place of S, the read, write or add that took place there if that was an action's in R, and
   -- nothing otherwise
   pub exact :
       (i : ℕ) →

@@ -1,24 +1,28 @@
--- RULES 6.5: the machine that performs the serial run's operations. It keeps base bytes and the own cards of the actions whose
--- blocks have begun, and nothing else. Assumes nothing.
+-- RULES 6.5: the machine that performs the serial run's operations. It keeps base bytes and, of the actions whose blocks have
+-- begun, the own cards and the pending sums, and nothing else. Assumes nothing.
 use Prim.Native.Nat.{ℕ}
-use mathlib.Core.Option.{none, some}
+use mathlib.Core.Bool.{cond}
+use mathlib.Core.Option.{Option, none, some}
 use mathlib.Core.List.{List, [], _∷_, _++_}
+use lib.IntN.{ℤ, _+ℤ_}
 use Rattle.rules.specs.declared.Answer.{Answer}
 use Rattle.rules.specs.Range.{fold}
-use Rattle.rules.specs.Card.{accounts, basePlace, cardAt, withCard}
+use Rattle.rules.specs.Card.{accounts, isCharge, basePlace, cardAt, withCard}
+use Rattle.rules.specs.Amount.{withAmount, baseAmount}
 use Rattle.rules.specs.Event.{Event}
-use Rattle.rules.specs.Serial.Effect.{Effect, over, lay}
+use Rattle.rules.specs.Serial.Effect.{Effect, nothing, puts, adds, lay, cardOver, sumOver}
 use Rattle.rules.specs.Serial.Collect.{put, storeBlock}
 use Rattle.rules.specs.Serial.Schedule.{Operation, begins, reads, writes, ends, scheduleOf}
 
--- an action's own cards by account
+-- by account, an action's own card or its pending sum
 abbrev pub Own : Type 0
 Own = ℕ → Effect
 
--- a read of the serial run: the place of its event in S, and the card that it is given
+-- a read of the serial run: the place of its event in S, the card that it is given and, of a charge account, the amount
 pub record Given : Type 0 where
   pub place : ℕ
   pub card : List ℕ
+  pub amount : Option ℤ
 
 -- the actions under way are a list, the innermost first
 pub record Machine : Type 0 where
@@ -26,17 +30,27 @@ pub record Machine : Type 0 where
   pub underWay : List Own
   pub given : List Given
 
--- what a read of account k is given
-unfoldable pub shows : List ℕ → List Own → ℕ → List ℕ
-shows base [] k = cardAt base (basePlace k)
-shows base (own ∷ above) k = over (own k) (shows base above k)
+-- the card that a read of account k is given: the innermost own card, else the base card
+unfoldable pub showsCard : List ℕ → List Own → ℕ → List ℕ
+showsCard base [] k = cardAt base (basePlace k)
+showsCard base (own ∷ above) k = cardOver (own k) (showsCard base above k)
 
--- each own card replaces the base card of its account
+-- the base amount of charge account k and the pending sums of all actions under way
+unfoldable pub showsSum : List ℕ → List Own → ℕ → ℤ
+showsSum base [] k = baseAmount base k
+showsSum base (own ∷ above) k = sumOver (own k) (showsSum base above k)
+
+unfoldable pub showsAmount : List ℕ → List Own → ℕ → Option ℤ
+showsAmount base under k = let sum = showsSum base under k in cond (isCharge k) (some sum) none
+
+-- an own card replaces the base card of its account; a pending sum is added to the base amount
 unfoldable pub settle : Effect → ℕ → List ℕ → List ℕ
-settle none k base = base
-settle (some card) k base = withCard base (basePlace k) card
+settle nothing k base = base
+settle (puts card) k base = withCard base (basePlace k) card
+settle (adds sum) k base =
+    withCard base (basePlace k) (withAmount (cardAt base (basePlace k)) (baseAmount base k +ℤ sum))
 
--- the cards of the innermost action after a write
+-- the innermost action after a write or an add
 unfoldable pub written : ℕ → Effect → List Own → List Own
 written k f [] = []
 written k f (own ∷ above) = put own k (lay f (own k)) ∷ above
@@ -50,12 +64,14 @@ ended m (own ∷ parent ∷ above) =
 
 -- one operation
 unfoldable pub perform : Machine → Operation Effect → Machine
-perform m (begins who) = record { base = m .base; underWay = (λ k. none) ∷ m .underWay; given = m .given }
+perform m (begins who) = record { base = m .base; underWay = (λ k. nothing) ∷ m .underWay; given = m .given }
 perform m (reads i k) =
     record {
       base = m .base;
       underWay = m .underWay;
-      given = m .given ++ (record { place = i; card = shows (m .base) (m .underWay) k } ∷ []);
+      given =
+          m .given
+          ++ (record { place = i; card = showsCard (m .base) (m .underWay) k; amount = showsAmount (m .base) (m .underWay) k } ∷ []);
     }
 perform m (writes i k f) = record { base = m .base; underWay = written k f (m .underWay); given = m .given }
 perform m ends = ended m (m .underWay)

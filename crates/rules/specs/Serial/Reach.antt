@@ -7,10 +7,11 @@ use mathlib.Core.Option.{Option, none, some}
 use mathlib.Core.List.{List, [], _∷_, _++_}
 use lib.Dec.{ltb, eqb}
 use Rattle.rules.specs.declared.Answer.{Answer}
+use Rattle.rules.specs.Amount.{amountIn}
 use Rattle.rules.specs.Event.{Event}
-use Rattle.rules.specs.Serial.Effect.{Effect}
+use Rattle.rules.specs.Serial.Effect.{Effect, puts, adds}
 use Rattle.rules.specs.Serial.Block.{Block, empty, read, write, child}
-use Rattle.rules.specs.Serial.Told.{Told, itBegan, itRead, itWrote, itCommitted, itDidNothing, told}
+use Rattle.rules.specs.Serial.Told.{Told, itBegan, itRead, itWrote, itAdded, itCommitted, itDidNothing, told}
 use Rattle.rules.specs.Serial.Collect.{put, commitsAt}
 use Rattle.rules.specs.Serial.Schedule.{Operation, begins, reads, writes, ends}
 
@@ -19,6 +20,7 @@ unfoldable pub parentsAfter : Event → Told → (ℕ → ℕ) → ℕ → ℕ
 parentsAfter e (itBegan n) parent = put parent n (e .number)
 parentsAfter e itRead parent = parent
 parentsAfter e itWrote parent = parent
+parentsAfter e itAdded parent = parent
 parentsAfter e itCommitted parent = parent
 parentsAfter e itDidNothing parent = parent
 
@@ -27,6 +29,7 @@ unfoldable pub isGivenTo : Told → ℕ → Bool
 isGivenTo (itBegan m) n = eqb n m
 isGivenTo itRead n = false
 isGivenTo itWrote n = false
+isGivenTo itAdded n = false
 isGivenTo itCommitted n = false
 isGivenTo itDidNothing n = false
 
@@ -45,7 +48,7 @@ reachesStore parent (e ∷ es) (a ∷ answers) n =
     let later = reachesStore now es answers (movedUp now (commitsAt e (told a)) n) in
     cond (isGivenTo (told a) n) false later
 
--- a read or a write: its place in S, whose it is, its account, and what it does there
+-- a read, a write or an add: its place in S, whose it is, its account, and what it does there
 pub record Act : Type 0 where
   pub place : ℕ
   pub who : ℕ
@@ -53,15 +56,16 @@ pub record Act : Type 0 where
   -- none for a read
   pub effect : Option Effect
 
--- an event's read or write, where one took place
+-- an event's read, write or add, where one took place
 unfoldable pub actOf : ℕ → Event → Told → List Act
 actOf i e itRead = record { place = i; who = e .number; account = e .account; effect = none } ∷ []
-actOf i e itWrote = record { place = i; who = e .number; account = e .account; effect = some (some (e .card)) } ∷ []
+actOf i e itWrote = record { place = i; who = e .number; account = e .account; effect = some (puts (e .card)) } ∷ []
+actOf i e itAdded = record { place = i; who = e .number; account = e .account; effect = some (adds (amountIn (e .card))) } ∷ []
 actOf i e (itBegan n) = []
 actOf i e itCommitted = []
 actOf i e itDidNothing = []
 
--- every read and write of the actions in R, in the order of S, from place i on
+-- every read, write and add of the actions in R, in the order of S, from place i on
 unfoldable pub actsOfR : ℕ → (ℕ → ℕ) → List Event → List Answer → List Act
 actsOfR i parent [] answers = []
 actsOfR i parent (e ∷ es) [] = []
@@ -79,7 +83,7 @@ abbrev pub roundIt : List ℕ → List ℕ
 roundIt [] = []
 roundIt (n ∷ round) = round
 
--- the reads and writes among operations; the actions under way say whose each one is
+-- the reads, writes and adds among operations; the actions under way say whose each one is
 unfoldable pub actsIn : List ℕ → List (Operation Effect) → List Act
 actsIn under [] = []
 actsIn under (begins who ∷ xs) = actsIn (who ∷ under) xs

@@ -10,7 +10,7 @@ use Rattle.rules.specs.declared.Answer.{Answer}
 use Rattle.rules.specs.Range.{upFrom}
 use Rattle.rules.specs.Walk.{walkUp}
 use Rattle.rules.specs.Event.{Event}
-use Rattle.rules.specs.Serial.Told.{Told, itBegan, itRead, itWrote, itCommitted, itDidNothing, told}
+use Rattle.rules.specs.Serial.Told.{Told, itBegan, itRead, itWrote, itAdded, itCommitted, itDidNothing, told}
 use Rattle.rules.specs.Serial.Collect.{put, commitsAt}
 use Rattle.rules.specs.Serial.Reach.{parentsAfter, reachesStore, Act, actOf, actsOfR}
 use Rattle.rules.specs.Serial.Demand.{answersTo}
@@ -61,6 +61,7 @@ unfoldable pub withStartAt : Event → Told → Lineage → Lineage
 withStartAt e (itBegan n) h = withStart h n (e .number)
 withStartAt e itRead h = h
 withStartAt e itWrote h = h
+withStartAt e itAdded h = h
 withStartAt e itCommitted h = h
 withStartAt e itDidNothing h = h
 
@@ -96,6 +97,7 @@ unfoldable pub givenAt : Told → List ℕ
 givenAt (itBegan n) = n ∷ []
 givenAt itRead = []
 givenAt itWrote = []
+givenAt itAdded = []
 givenAt itCommitted = []
 givenAt itDidNothing = []
 

@@ -2,20 +2,22 @@
 -- never by the event's code. Assumes nothing.
 use Prim.Native.Nat.{ℕ}
 use Rattle.rules.specs.declared.Answer.{Answer}
-use Rattle.rules.specs.declared.Answer.the-variants.{Started, Read, Written, Committed, Failed, Aborted, Refused}
+use Rattle.rules.specs.declared.Answer.the-variants.{Started, Read, ReadSum, Written, Added, Committed, Failed, Aborted, Refused}
 
 pub data Told : Type 0 where
   -- an action began under the event's number, and was given number n
   itBegan : (n : ℕ) → Told
-  -- the action of the event's number read, wrote, committed
-  itRead itWrote itCommitted : Told
+  -- the action of the event's number read, wrote, added, committed
+  itRead itWrote itAdded itCommitted : Told
   -- nothing took place that a block holds
   itDidNothing : Told
 
 abbrev pub told : Answer → Told
 told (Started n) = itBegan n
 told (Read holder moves) = itRead
+told (ReadSum holder moves x) = itRead
 told Written = itWrote
+told Added = itAdded
 told (Committed t) = itCommitted
 told (Failed t k) = itDidNothing
 told (Aborted n) = itDidNothing

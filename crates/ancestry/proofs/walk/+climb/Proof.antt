@@ -1,4 +1,4 @@
--- `climb` meets its contract: the nearest version is the store's at 0, the action's own where it has written the account,
+-- `climb` meets its contract: the nearest version is the store's at 0, the action's own where it has a card for the account,
 -- and else its parent's, one move further up. The measure is the action's number, which its parent's is below.
 -- Assumes nothing.
 use Prim.Native.Nat.{ℕ, suc, _+_, _<_}
@@ -10,10 +10,12 @@ use mathlib.Core.List.{List}
 use borrow.Author.Needs.{needs}
 use borrow.Fn.Kinds.{In}
 use borrow.Fn.PlainCycle.{Measures, is, falls, and}
+use Rattle.rules.specs.Card.{IsPlain}
 use Rattle.rules.specs.Table.{parentOf, hasWritten}
 use Rattle.rules.specs.Sound.{IsStarted, Sound}
 use Rattle.rules.specs.Nearest.{movesUp, version}
 use Rattle.rules.proofs.Laws.Walking.{sound-climbs, nearest-store}
+use Rattle.rules.proofs.Laws.Charges.{hasCard-below}
 use Rattle.rules.proofs.Laws.Versions.{movesUp-store, version-own, version-above}
 use Rattle.ancestry.specs.Ancestry.{countedOn}
 use Rattle.ancestry.proofs.walk.climb.Reads as climb
@@ -24,17 +26,19 @@ use Rattle.rows.proofs.fields.parent.Reads as parent
 use Rattle.ancestry.proofs.walk.+climb.{statement}
 use Rattle.ancestry.proofs.walk.+climb.Tie.{close}
 
--- the version seen from an action, with some moves made before: its own where it has written the account, and else its
+-- the version seen from an action, with some moves made before: its own where it has a card for the account, and else its
 -- parent's, with one move more
-module _ (w : List ℕ) (n k made : ℕ) (sound : Sound w) (own : IsStarted w n) where
+module _ (w : List ℕ) (n k made : ℕ) (plain : IsPlain k) (sound : Sound w) (own : IsStarted w n) where
   own-version : hasWritten w n k ≡ true → countedOn made (version w n k) ≡ record { holder = n; moves = made }
-  own-version written =
-      ap (countedOn made) (version-own w k n (λ z. omega arith) (sound-climbs sound n (own .1)) written) ∙ rw add-zero
+  own-version held =
+      let held-card = hasCard-below w n k plain ∙ held in
+      ap (countedOn made) (version-own w k n (λ z. omega arith) (sound-climbs sound n (own .1)) held-card) ∙ rw add-zero
 
   parent-version : hasWritten w n k ≡ false → countedOn made (version w n k) ≡ countedOn (made + 1) (version w (parentOf w n) k)
-  parent-version unwritten =
+  parent-version without =
       let one-more : made + suc (movesUp w (parentOf w n) k) ≡ made + 1 + movesUp w (parentOf w n) k = omega arith in
-      ap (countedOn made) (version-above w k n (λ z. omega arith) (sound-climbs sound n (own .1)) unwritten) ∙ rw one-more
+      let without-card = hasCard-below w n k plain ∙ without in
+      ap (countedOn made) (version-above w k n (λ z. omega arith) (sound-climbs sound n (own .1)) without-card) ∙ rw one-more
 
 abbrev μ-climb : Measures 1 climb-kinds.ps ℕ
 μ-climb κs a = a .1 .0
@@ -59,20 +63,20 @@ has-written-requires t c κs = search needs
 returns-2 : (t : ℕ) → climb-lts.Need-returns-2 (calls t) (climb-at t) climb.Post
 returns-2 t c =
     let start = c .before .before .before .before in
-    sym (own-version _ _ _ _ (start .pre .1 .0 .sound) (omega arith) (sym (c .before .has-written .ensures) ∙ c .if2 .taken))
+    sym (own-version _ _ _ _ (start .pre .1 .1 .0) (start .pre .1 .0 .sound) (omega arith) (sym (c .before .has-written .ensures) ∙ c .if2 .taken))
 
 parent-requires : (t : ℕ) → climb-lts.Need-parent-requires (calls t) (climb-at t) climb.Post
 parent-requires t c κs = search needs
 
--- at an action that has not written the account
+-- at an action that has no card for the account
 above : (t : ℕ) (c : climb-lts.After-parent (calls t) (climb-at t) climb.Post) →
     let args = c .before .before .before .before .before .args in
     countedOn (args .moves) (version (args .table .now) (args .n) (args .k))
     ≡ countedOn (args .moves + 1) (version (args .table .now) (c .parent .result) (args .k))
 above t c =
     let start = c .before .before .before .before .before in
-    let unwritten = sym (c .before .before .has-written .ensures) ∙ c .before .if2 .left in
-    rw (c .parent .ensures) (parent-version _ _ _ _ (start .pre .1 .0 .sound) (omega arith) unwritten)
+    let without = sym (c .before .before .has-written .ensures) ∙ c .before .if2 .left in
+    rw (c .parent .ensures) (parent-version _ _ _ _ (start .pre .1 .1 .0) (start .pre .1 .0 .sound) (omega arith) without)
 
 add-climb : (t : ℕ) → climb-lts.Need-add-climb (calls t) (climb-at t) climb.Post
 add-climb t c = omega (arith, ap (λ v. v .moves) (above t c))
@@ -81,7 +85,7 @@ climb-requires : (t : ℕ) → climb-lts.Need-climb-requires (calls t) (climb-at
 climb-requires t c κs =
     let start = c .before .before .before .before .before in
     let down = start .pre .1 .0 .sound .below (start .args .n) (omega arith) in
-    (omega arith, (search needs, omega (arith, ap (λ v. v .moves) (above t c))))
+    (omega arith, (search needs, (start .pre .1 .1 .0, omega (arith, ap (λ v. v .moves) (above t c)))))
 
 returns-3 : (t : ℕ) → climb-lts.Need-returns-3 (calls t) (climb-at t) climb.Post
 returns-3 t c = c .climb .ensures ∙ sym (above t (c .before))

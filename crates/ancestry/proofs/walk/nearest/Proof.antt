@@ -10,7 +10,7 @@ use Rattle.ancestry.proofs.walk.nearest.Tie as tie
 climb-requires : tie.Need-climb-requires
 climb-requires c κs =
     let start = c .before in
-    (start .pre, omega (arith, movesUp-at-most (start .args .table .now) (start .args .k) (start .args .n)))
+    (start .pre .0, (start .pre .1, omega (arith, movesUp-at-most (start .args .table .now) (start .args .k) (start .args .n))))
 
 returns : tie.Need-returns
 returns c = c .climb .ensures ∙ rw zero-add

@@ -5,29 +5,29 @@ use borrow.Author.Tests.{le-leb, lt-leb, le-ltb, lt-ltb, ne-eqb, not-true, not-f
 use native.Mathlib.Omega.{arith}
 use mathlib.Core.Path.{sym, _∙_}
 use Rattle.rules.specs.Table.{started}
-use Rattle.rules.specs.Event.{startCode, abortCode}
-use Rattle.rules.specs.Cause.{eventCauses}
+use Rattle.rules.specs.Event.{startCode, addCode}
+use Rattle.rules.specs.Cause.{earlyCauses}
 use Rattle.causes.proofs.Grouped.{causes-of-start, causes-of-kind}
 use Rattle.causes.proofs.cause.event_cause.Statement.{statement}
 use Rattle.causes.proofs.cause.event_cause.Tie as tie
 
 returns : tie.Need-returns
-unfolding eventCauses
+unfolding earlyCauses
 returns c = rw (lt-leb startCode _ (c .if1 .taken))
 
 returns-2 : tie.Need-returns-2
-unfolding eventCauses
-returns-2 c = rw (le-leb startCode _ (c .before .if1 .left), lt-leb _ abortCode (c .if2 .taken))
+unfolding earlyCauses
+returns-2 c = rw (le-leb startCode _ (c .before .if1 .left), lt-leb _ addCode (c .if2 .taken))
 
 last-start-requires : tie.Need-last-start-requires
 last-start-requires c κs = search needs
 
 returns-3 : tie.Need-returns-3
-unfolding eventCauses
+unfolding earlyCauses
 returns-3 c =
     rw (
       le-leb startCode _ (c .before .before .before .if1 .left),
-      le-leb _ abortCode (c .before .before .if2 .left),
+      le-leb _ addCode (c .before .before .if2 .left),
       ← c .before .last-start .ensures,
       lt-ltb _ _ (c .if3 .taken),
     )
@@ -40,12 +40,12 @@ returns-4 c =
     c .start-cause .ensures ∙ sym (causes-of-start _ _ (omega arith) (c .before .if4 .taken))
 
 returns-5 : tie.Need-returns-5
-unfolding eventCauses
+unfolding earlyCauses
 returns-5 c =
     let args = c .before .before .before .before .before .before .before .before .args in
     rw (
       le-leb startCode (args .code) (omega arith),
-      le-leb (args .code) abortCode (omega arith),
+      le-leb (args .code) addCode (omega arith),
       c .if5 .taken,
       le-ltb (started (args .table .now)) 0 (omega arith),
       ne-eqb (args .code) startCode (c .before .if4 .left),
@@ -55,12 +55,12 @@ is-live-requires : tie.Need-is-live-requires
 is-live-requires c κs = search needs
 
 returns-6 : tie.Need-returns-6
-unfolding eventCauses
+unfolding earlyCauses
 returns-6 c =
     let args = c .before .before .before .before .before .before .before .before .before .before .args in
     rw (
       le-leb startCode (args .code) (omega arith),
-      le-leb (args .code) abortCode (omega arith),
+      le-leb (args .code) addCode (omega arith),
       le-ltb (started (args .table .now)) (args .number) (omega arith),
       ne-eqb (args .number) 0 (c .before .before .if5 .left),
       sym (c .before .is-live .ensures) ∙ not-true (c .before .is-live .result) (c .if6 .taken),

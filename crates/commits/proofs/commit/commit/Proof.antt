@@ -1,5 +1,8 @@
--- `commit` leaves and answers what `judged` says of the clash that the search found, or of none. Assumes nothing.
+-- `commit` leaves and answers what `judged` says of the clash that the search found, or of none, or it refuses where there is
+-- none and a sum is outside. Assumes nothing.
+use mathlib.Core.Path.{sym, _∙_}
 use borrow.Author.Needs.{needs}
+use Rattle.rules.specs.Cause.{isCommitOutside}
 use Rattle.rules.specs.Step.{commit, judged}
 use Rattle.commits.proofs.commit.commit.Statement.{statement}
 use Rattle.commits.proofs.commit.commit.Tie as tie
@@ -10,14 +13,8 @@ first-clash-requires c κs = search needs
 enum-told : tie.Need-enum-told
 enum-told c = search needs
 
-pass-requires : tie.Need-pass-requires
-pass-requires c κs = search needs
-
-enum-known-found : tie.Need-enum-known-found
-enum-known-found c = search needs
-
-set-state-requires : tie.Need-set-state-requires
-set-state-requires c κs = search needs
+is-outside-requires : tie.Need-is-outside-requires
+is-outside-requires c κs = search needs
 
 same-length : tie.Need-same-length
 same-length c = search needs
@@ -25,23 +22,57 @@ same-length c = search needs
 same-length-2 : tie.Need-same-length-2
 same-length-2 c = search needs
 
+returns : tie.Need-returns
+returns c =
+    let told = c .before .before .before .before in
+    rw (
+      ← told .before .before .first-clash .ensures,
+      told .enum-told .given .1,
+      sym (c .before .is-outside .ensures) ∙ c .if1 .taken,
+    )
+
+pass-requires : tie.Need-pass-requires
+pass-requires c κs =
+    let tested = c .before .before .before in
+    let start = tested .before .before .before .before .before .before .before .before .before .before .before in (
+      start .pre .0,
+      (start .pre .1 .0, (start .pre .1 .1, sym (tested .before .is-outside .ensures) ∙ tested .if1 .left)),
+    )
+
+enum-known-found : tie.Need-enum-known-found
+enum-known-found c = search needs
+
+set-state-requires : tie.Need-set-state-requires
+set-state-requires c κs = search needs
+
 same-length-3 : tie.Need-same-length-3
 same-length-3 c = search needs
-
-returns : tie.Need-returns
-unfolding commit judged
-returns c =
-    let passed = c .before .before .before .before .before .before in
-    let told = passed .before .before .before .before in
-    rw (← told .before .before .first-clash .ensures, told .enum-told .given .1)
-    (rw (passed .pass .ensures .0, passed .pass .ensures .1))
 
 same-length-4 : tie.Need-same-length-4
 same-length-4 c = search needs
 
+same-length-5 : tie.Need-same-length-5
+same-length-5 c = search needs
+
 returns-2 : tie.Need-returns-2
 unfolding commit judged
 returns-2 c =
+    let passed = c .before .before .before .before .before .before in
+    let tested = passed .before .before .before .before in
+    let told = tested .before .before .before .before in
+    rw (
+      ← told .before .before .first-clash .ensures,
+      told .enum-told .given .1,
+      sym (tested .before .is-outside .ensures) ∙ tested .if1 .left,
+    )
+    (rw (passed .pass .ensures .0, passed .pass .ensures .1))
+
+same-length-6 : tie.Need-same-length-6
+same-length-6 c = search needs
+
+returns-3 : tie.Need-returns-3
+unfolding commit judged isCommitOutside
+returns-3 c =
     let put = c .before .before in
     let told = put .before .before .before in
     rw (← told .before .before .first-clash .ensures, told .found .given .1, put .set-state .ensures)
@@ -52,12 +83,16 @@ commit-spec =
     (tie.spec
     first-clash-requires
     enum-told
+    is-outside-requires
+    same-length
+    same-length-2
+    returns
     pass-requires
     enum-known-found
     set-state-requires
-    same-length
-    same-length-2
     same-length-3
-    returns
     same-length-4
-    returns-2)
+    same-length-5
+    returns-2
+    same-length-6
+    returns-3)

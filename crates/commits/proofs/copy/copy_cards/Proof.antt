@@ -5,7 +5,7 @@ use native.Mathlib.Omega.{arith}
 use mathlib.Core.Path.{_≡_, refl, sym, _∙_}
 use lib.ListN.{length}
 use borrow.Author.Needs.{needs}
-use Rattle.rules.specs.Card.{accountCount}
+use Rattle.rules.specs.Card.{firstCharge}
 use Rattle.commits.specs.Copy.{copyOwn}
 use Rattle.commits.proofs.CommitCopies.{copiesFrom, copies-all, copies-next, copies-done}
 use Rattle.commits.proofs.copy.copy_cards.Statement.{statement}
@@ -13,12 +13,12 @@ use Rattle.commits.proofs.copy.copy_cards.Tie as tie
 
 abbrev Inv-loop : tie.InvT-loop
 Inv-loop table n cards store₀ start k₀ store k =
-    (k ≤ accountCount)
+    (k ≤ firstCharge)
     × (length store ≡ length store₀)
     × (copyOwn table n cards start store₀ ≡ copiesFrom table n cards start k store)
 
 abbrev μ-loop : tie.MeasureT-loop
-μ-loop table n cards store₀ start k₀ store k = accountCount - k
+μ-loop table n cards store₀ start k₀ store k = firstCharge - k
 
 loop-holds : tie.Need-loop-holds Inv-loop μ-loop
 loop-holds c = (omega arith, refl, copies-all _ _ _ _ _)

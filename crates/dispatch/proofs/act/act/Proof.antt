@@ -1,28 +1,38 @@
--- `act` meets its contract: an event with no cause to be refused is allowed, and so its code's function has what it
--- asks for and gives what `act` makes of that code. Assumes nothing.
+-- `act` meets its contract: where no early cause applies, its code's function has what it asks for and gives what the step
+-- makes of that code. Assumes nothing.
 use native.Mathlib.Omega.{arith}
 use mathlib.Core.Logic.{_≢_}
+use mathlib.Core.Bool.{_||_}
 use borrow.Author.Needs.{needs}
-use borrow.Author.Tests.{eq-eqb, ne-eqb}
-use lib.Dec.{eqb}
+use borrow.Author.Tests.{eq-eqb, ne-eqb, leb-true}
+use Rattle.rules.specs.Card.{firstCharge}
 use Rattle.rules.specs.Sound.{IsStarted, Sound}
-use Rattle.rules.specs.Step.{start, read, write, abort, act}
+use Rattle.rules.specs.Event.{Event, eventOf, startCode, readCode, writeCode, addCode, isRead, isWrite}
+use Rattle.rules.specs.Ledger.{Ledger, ledgerOf}
+use Rattle.rules.specs.Step.{start, write, abort}
 use Rattle.rules.proofs.Laws.Tests.{or-inl, or-inr}
-use Rattle.rules.proofs.Laws.Allowed.{Allowed, allowed}
-use Rattle.rules.proofs.Sound.Soundness.{facts}
-use Rattle.rules.specs.Event.{eventOf, startCode, readCode, writeCode, commitCode}
+use Rattle.rules.proofs.Laws.Allowed.{EarlyAllowed, early-allowed}
+use Rattle.causes.proofs.Grouped.{Accepted}
+use Rattle.dispatch.proofs.Summed.{step-of-start, step-of-read, step-of-write, step-of-commit, step-of-add, step-of-abort}
 use Rattle.dispatch.proofs.act.act.Statement.{statement}
 use Rattle.dispatch.proofs.act.act.Tie as tie
 
--- what holds at entry
-event-allowed :
-    (c : tie.Start) →
-    Allowed (c .args .table .now) (c .args .base .now) (c .args .shadow .now)
-    (eventOf (c .args .code) (c .args .number) (c .args .account) (c .args .card .now))
-event-allowed c = allowed _ _ _ _ (c .pre)
+-- the event and the ledger, at entry
+abbrev eventAt : tie.Start → Event
+eventAt c = eventOf (c .args .code) (c .args .number) (c .args .account) (c .args .card .now)
 
+abbrev ledgerAt : tie.Start → Ledger
+ledgerAt c = ledgerOf (c .args .table .now) (c .args .base .now) (c .args .shadow .now)
+
+-- what holds there
 table-sound : (c : tie.Start) → Sound (c .args .table .now)
-table-sound c = facts _ (event-allowed c .soundTest)
+table-sound c = c .pre .0
+
+accepted : (c : tie.Start) → Accepted (c .args .table .now) (c .args .base .now) (c .args .shadow .now)
+accepted c = (c .pre .1 .0, table-sound c)
+
+event-allowed : (c : tie.Start) → EarlyAllowed (c .args .table .now) (eventAt c)
+event-allowed c = early-allowed _ _ (c .pre .1 .1)
 
 own-number : (c : tie.Start) → c .args .code ≢ startCode → IsStarted (c .args .table .now) (c .args .number)
 own-number c other = (event-allowed c .named (ne-eqb _ startCode other), event-allowed c .numberKnown)
@@ -37,32 +47,39 @@ same-length : tie.Need-same-length
 same-length c = search needs
 
 returns : tie.Need-returns
-unfolding act start
+unfolding start
 returns c =
+    let entry = c .before .before .before .before .before .before .before .before .before in
     rw (
-      c .before .before .before .before .if1 .taken,
+      step-of-start (ledgerAt entry) (eventAt entry) (accepted entry) (entry .pre .1 .1) (c .before .before .before .before .if1 .taken),
       c .before .before .start .ensures .0,
       c .before .before .start .ensures .1,
     )
 
 read-requires : tie.Need-read-requires
 read-requires c κs =
-    let entry = c .before .before .before .before .before .before .before in
+    let entry = c .before .before .before .before .before .before .before .before in
     let event = event-allowed entry in
-    record {
-      sound = table-sound entry;
-      known = event .numberKnown;
-      account = event .accountKnown (or-inl _ (eq-eqb _ readCode (c .before .if2 .taken)));
-    }
+    let reads = eq-eqb _ readCode (c .before .before .if2 .taken) in (
+      record {
+        sound = table-sound entry;
+        known = event .numberKnown;
+        account = event .accountKnown (or-inl _ (or-inl (isWrite (eventAt entry)) reads));
+      },
+      entry .pre .1 .0 .baseFits,
+    )
 
 same-length-2 : tie.Need-same-length-2
 same-length-2 c = search needs
 
+same-length-3 : tie.Need-same-length-3
+same-length-3 c = search needs
+
 returns-2 : tie.Need-returns-2
-unfolding act read
 returns-2 c =
+    let entry = c .before .before .before .before .before .before .before .before .before .before .before in
     rw (
-      c .before .before .before .before .if2 .taken,
+      step-of-read (ledgerAt entry) (eventAt entry) (accepted entry) (entry .pre .1 .1) (c .before .before .before .before .before .if2 .taken),
       c .before .before .read .ensures .0,
       c .before .before .read .ensures .1,
     )
@@ -76,22 +93,23 @@ write-requires c κs =
     let own = own-number entry (c .before .before .before .before .if1 .left) in (
       record { long = sound .long; known = omega arith },
       (
-        ((own .0, omega (arith, own, sound .few)), event .accountKnown (or-inr (eqb (entry .args .code) readCode) writes)),
-        (event .shadowFits, event .cardFits writes),
+        ((own .0, omega (arith, own, sound .few)), event .accountKnown (or-inl _ (or-inr (isRead (eventAt entry)) writes))),
+        (entry .pre .1 .0 .shadowFits, event .cardFits (or-inl _ writes)),
       ),
     )
-
-same-length-3 : tie.Need-same-length-3
-same-length-3 c = search needs
 
 same-length-4 : tie.Need-same-length-4
 same-length-4 c = search needs
 
+same-length-5 : tie.Need-same-length-5
+same-length-5 c = search needs
+
 returns-3 : tie.Need-returns-3
-unfolding act write
+unfolding write
 returns-3 c =
+    let entry = c .before .before .before .before .before .before .before .before .before .before .before .before .before .before in
     rw (
-      c .before .before .before .before .before .before .before .if3 .taken,
+      step-of-write (ledgerAt entry) (eventAt entry) (accepted entry) (entry .pre .1 .1) (c .before .before .before .before .before .before .before .if3 .taken),
       c .before .before .before .before .write .ensures .0,
       c .before .before .before .before .write .ensures .1,
     )
@@ -99,16 +117,7 @@ returns-3 c =
 commit-requires : tie.Need-commit-requires
 commit-requires c κs =
     let entry = c .before .before .before .before .before .before .before .before .before .before .before in
-    let event = event-allowed entry in (
-      table-sound entry,
-      (
-        own-number entry (c .before .before .before .before .before .before .if1 .left),
-        record { baseFits = event .baseFits; shadowFits = event .shadowFits },
-      ),
-    )
-
-same-length-5 : tie.Need-same-length-5
-same-length-5 c = search needs
+    (table-sound entry, (own-number entry (c .before .before .before .before .before .before .if1 .left), entry .pre .1 .0))
 
 same-length-6 : tie.Need-same-length-6
 same-length-6 c = search needs
@@ -116,28 +125,56 @@ same-length-6 c = search needs
 same-length-7 : tie.Need-same-length-7
 same-length-7 c = search needs
 
-returns-4 : tie.Need-returns-4
-unfolding act
-returns-4 c =
-    rw (c .before .before .before .before .before .before .before .before .before .before .if4 .taken)
-    (c .before .before .before .before .before .before .commit .ensures)
-
-abort-requires : tie.Need-abort-requires
-abort-requires c κs =
-    let sound = table-sound (c .before .before .before .before .before .before .before .before .before) in
-    record { long = sound .long; few = sound .few; below = sound .below }
-
 same-length-8 : tie.Need-same-length-8
 same-length-8 c = search needs
 
+returns-4 : tie.Need-returns-4
+returns-4 c =
+    let entry = c .before .before .before .before .before .before .before .before .before .before .before .before .before .before .before .before .before .before in
+    rw (step-of-commit (ledgerAt entry) (eventAt entry) (accepted entry) (entry .pre .1 .1) (c .before .before .before .before .before .before .before .before .before .before .if4 .taken))
+    (c .before .before .before .before .before .before .commit .ensures)
+
+add-requires : tie.Need-add-requires
+add-requires c κs =
+    let entry = c .before .before .before .before .before .before .before .before .before .before in
+    let event = event-allowed entry in
+    let sound = table-sound entry in
+    let adds = eq-eqb _ addCode (c .before .if5 .taken) in
+    let own = own-number entry (c .before .before .before .before .before .if1 .left) in (
+      record { long = sound .long; known = omega (arith, own, sound .few) },
+      (
+        (leb-true firstCharge _ (event .chargeAdded adds), event .accountKnown (or-inr (isRead (eventAt entry) || isWrite (eventAt entry)) adds)),
+        event .cardFits (or-inr (isWrite (eventAt entry)) adds),
+      ),
+    )
+
+same-length-9 : tie.Need-same-length-9
+same-length-9 c = search needs
+
 returns-5 : tie.Need-returns-5
-unfolding act abort
 returns-5 c =
+    let entry = c .before .before .before .before .before .before .before .before .before .before .before .before .before in
     rw (
-      ne-eqb _ startCode (c .before .before .before .before .before .before .before .if1 .left),
-      ne-eqb _ readCode (c .before .before .before .before .before .before .if2 .left),
-      ne-eqb _ writeCode (c .before .before .before .before .before .if3 .left),
-      ne-eqb _ commitCode (c .before .before .before .before .if4 .left),
+      step-of-add (ledgerAt entry) (eventAt entry) (accepted entry) (entry .pre .1 .1) (c .before .before .before .before .if5 .taken),
+      c .before .before .add .ensures .0,
+      c .before .before .add .ensures .1,
+    )
+
+abort-requires : tie.Need-abort-requires
+abort-requires c κs =
+    let sound = table-sound (c .before .before .before .before .before .before .before .before .before .before) in
+    record { long = sound .long; few = sound .few; below = sound .below }
+
+same-length-10 : tie.Need-same-length-10
+same-length-10 c = search needs
+
+returns-6 : tie.Need-returns-6
+unfolding abort
+returns-6 c =
+    let entry = c .before .before .before .before .before .before .before .before .before .before .before .before .before in
+    rw (
+      step-of-abort (ledgerAt entry) (eventAt entry) (accepted entry) (entry .pre .1 .1)
+          (c .before .before .before .before .before .before .before .before .if1 .left) (c .before .before .before .before .before .before .before .if2 .left) (c .before .before .before .before .before .before .if3 .left) (c .before .before .before .before .before .if4 .left) (c .before .before .before .before .if5 .left),
       c .before .before .abort .ensures .0,
       c .before .before .abort .ensures .1,
     )
@@ -151,16 +188,20 @@ act-spec =
     returns
     read-requires
     same-length-2
+    same-length-3
     returns-2
     write-requires
-    same-length-3
     same-length-4
+    same-length-5
     returns-3
     commit-requires
-    same-length-5
     same-length-6
     same-length-7
-    returns-4
-    abort-requires
     same-length-8
-    returns-5)
+    returns-4
+    add-requires
+    same-length-9
+    returns-5
+    abort-requires
+    same-length-10
+    returns-6)

@@ -19,7 +19,9 @@ use Rattle.engine.proofs.event.event.Tie as tie
 gives :
     {answer : Answer} {table base shadow : List ℕ} {o : Outcome} →
     outcomeOf answer table base shadow ≡ o → Gives answer table base shadow o
-gives e = record { says = ap (λ (o : Outcome). said (o .answer)) e; leaves = ap (λ (o : Outcome). o .after) e }
+gives e =
+    let is = ap (λ (o : Outcome). o .answer) e in
+    record { is = is; says = ap said is; leaves = ap (λ (o : Outcome). o .after) e }
 
 store-cause-requires : tie.Need-store-cause-requires
 store-cause-requires c κs = search needs

@@ -1,9 +1,8 @@
 -- `look` meets its contract: its causes are those of a read, and where there is none the nearest version is a whole
--- card inside one of the stores, found by the one walk that counts the moves. Assumes nothing.
+-- card inside one of the stores. Assumes nothing.
 use Prim.Native.Nat.{ℕ, _+_, _-_, _≤_}
 use native.Mathlib.Omega.{arith}
-use mathlib.Core.Path.{_≡_, refl, sym, _∙_, ap}
-use mathlib.Core.Logic.{_≢_}
+use mathlib.Core.Path.{_≡_, refl, sym, _∙_}
 use mathlib.Core.List.{List, []}
 use lib.ListN.{length, take, drop, length-drop}
 use lib.Seq.{length-take-le}
@@ -11,30 +10,15 @@ use borrow.Author.Needs.{needs}
 use borrow.Author.Tests.{ne-eqb}
 use Rattle.rules.specs.Card.{cardLength}
 use Rattle.rules.specs.Table.{mostActions}
-use Rattle.rules.specs.declared.Version.{Version}
-use Rattle.rules.specs.Nearest.{version}
 use Rattle.rules.specs.Event.{readBy}
-use Rattle.rules.specs.Look.{lookCause, look, lookAt, lookRefused}
-use Rattle.rules.proofs.Laws.Allowed.{Allowed, allowed}
-use Rattle.rules.proofs.Laws.Walking.{nearest-started}
-use Rattle.rules.proofs.Sound.Soundness.{facts}
-use Rattle.rules.proofs.Stores.Looking.{look-refused-as-read, look-refused, look-given}
+use Rattle.rules.specs.Cause.{firstCause, earlyCauses}
+use Rattle.rules.specs.Look.{lookCause}
+use Rattle.rules.proofs.Laws.Allowed.{EarlyAllowed, early-allowed}
+use Rattle.rules.proofs.Stores.Looking.{look-refused-as-read}
 use Rattle.causes.proofs.Grouped.{Accepted, stores-accepted, event-refused, event-asked}
+use Rattle.engine.proofs.Sights.{refused, sight-refused, sight-given, holder-few}
 use Rattle.engine.proofs.look.look.Statement.{statement}
 use Rattle.engine.proofs.look.look.Tie as tie
-
--- a look that has a cause gives it, the empty part and no moves
-refused :
-    (w base shadow : List ℕ) (n k cause : ℕ) → lookCause w base shadow n k ≡ cause → cause ≢ 0 →
-    look w base shadow n k ≡ lookRefused cause
-refused w base shadow n k cause is given =
-    look-refused w base shadow n k (λ none. given (sym is ∙ none)) ∙ ap lookRefused is
-
--- and one that has none shows the version that was found
-shown :
-    (w base shadow : List ℕ) (n k : ℕ) (found : Version) → lookCause w base shadow n k ≡ 0 → found ≡ version w n k →
-    look w base shadow n k ≡ lookAt found k
-shown w base shadow n k found none is = look-given w base shadow n k none ∙ ap (λ v. lookAt v k) (sym is)
 
 -- a part of 32 bytes has a card's length, wherever it starts
 card-size : (from : ℕ) → from + cardLength - from ≡ cardLength
@@ -80,46 +64,48 @@ accepted c = stores-accepted _ _ _ (c .before .store-cause .ensures) (c .if1 .le
 event-cause-requires : tie.Need-event-cause-requires
 event-cause-requires c κs = accepted c .1
 
--- there the look's cause is the one that is asked next
-cause-asked :
-    (c : tie.After-event-cause) → causeAt (c .before .before .before .before .before .before .before) ≡ c .event-cause .result
+-- where the second test holds, the look's cause is the one that was asked there
+cause-asked : (c : tie.Then2) → causeAt (c .before .before .before .before .before .before .before .before) ≡ c .before .event-cause .result
 cause-asked c =
-    look-refused-as-read _ _ _ _ _ [] ∙ event-asked _ _ _ _ (accepted (c .before)) (c .event-cause .ensures)
-
--- and where there is none, a read is allowed
-read-allowed :
-    (c : tie.Else2) →
-    let args = c .before .before .before .before .before .before .before .before .args in
-    Allowed (args .table .now) (args .base .now) (args .shadow .now) (readBy (args .n) (args .k))
-read-allowed c = allowed _ _ _ _ (sym (look-refused-as-read _ _ _ _ _ _) ∙ cause-asked (c .before) ∙ c .if2 .left)
+    look-refused-as-read _ _ _ _ _ []
+    ∙ event-asked _ _ _ _ (accepted (c .before .before)) (c .before .event-cause .ensures) (c .if2 .taken)
 
 returns-2 : tie.Need-returns-2
 returns-2 c =
-    rw (refused _ _ _ _ _ _ (cause-asked (c .before)) (c .if2 .taken))
+    rw (refused _ _ _ _ _ _ (cause-asked c) (c .if2 .taken))
     (refl, (refl, (refl, record { points = refl; size = refl })))
 
--- the nearest version is the store's, or that of an action
-holder-known : (c : tie.After-nearest) → c .nearest .result .holder ≤ mostActions
-holder-known c =
-    let args = c .before .before .before .before .before .before .before .before .before .args in
-    let read = read-allowed (c .before) in
-    let sound = facts (args .table .now) (read .soundTest) in
-    omega (
-      arith,
-      nearest-started (args .table .now) sound (args .n) (args .k) (read .numberKnown),
-      ap (λ found. found .holder) (c .nearest .ensures),
-    )
+-- behind it no early cause of a read applies
+none-early :
+    (c : tie.Else2) →
+    let args = c .before .before .before .before .before .before .before .before .args in
+    firstCause (earlyCauses (args .table .now) (readBy (args .n) (args .k))) ≡ 0
+none-early c = sym (c .before .event-cause .ensures) ∙ c .if2 .left
 
-nearest-requires : tie.Need-nearest-requires
-nearest-requires c κs =
+read-allowed :
+    (c : tie.Else2) →
+    let args = c .before .before .before .before .before .before .before .before .args in
+    EarlyAllowed (args .table .now) (readBy (args .n) (args .k))
+read-allowed c = early-allowed _ _ (none-early c)
+
+sight-of-requires : tie.Need-sight-of-requires
+sight-of-requires c κs =
     let read = read-allowed c in
-    record { sound = facts _ (read .soundTest); known = read .numberKnown; account = read .accountKnown refl }
+    let (fits, sound) = accepted (c .before .before) in
+    (record { sound = sound; known = read .numberKnown; account = read .accountKnown refl }, fits .baseFits)
+
+returns-3 : tie.Need-returns-3
+returns-3 c =
+    let asked = c .before .before .before in
+    let found = c .before .before .sight-of in
+    rw (sight-refused _ _ _ _ _ (accepted (asked .before .before)) (none-early asked) (found .result) (found .ensures) (c .if3 .taken))
+    (refl, (refl, (refl, record { points = refl; size = refl })))
 
 base-place-requires : tie.Need-base-place-requires
-base-place-requires c κs = omega (arith, read-allowed (c .before .before) .accountKnown refl)
+base-place-requires c κs = omega (arith, read-allowed (c .before .before .before .before) .accountKnown refl)
 
 add-to : tie.Need-add-to
-add-to c = omega (arith, c .base-place .ensures, read-allowed (c .before .before .before) .accountKnown refl)
+add-to c = omega (arith, c .base-place .ensures, read-allowed (c .before .before .before .before .before) .accountKnown refl)
 
 sub-result : tie.Need-sub-result
 sub-result c = search needs
@@ -129,29 +115,37 @@ part-result-start c = search needs
 
 part-result-end : tie.Need-part-result-end
 part-result-end c =
+    let asked = c .before .before .before .before .before in
     omega (
       arith,
       c .base-place .ensures,
-      read-allowed (c .before .before .before) .accountKnown refl,
-      read-allowed (c .before .before .before) .baseFits,
+      read-allowed asked .accountKnown refl,
+      accepted (asked .before .before) .0 .baseFits,
     )
 
-returns-3 : tie.Need-returns-3
-returns-3 c =
-    let args = c .before .before .before .before .before .before .before .before .before .before .before .before .args in
-    let none = cause-asked (c .before .before .before .before .before) ∙ c .before .before .before .before .if2 .left in
-    let found = c .before .before .before .nearest in
+returns-4 : tie.Need-returns-4
+returns-4 c =
+    let asked = c .before .before .before .before .before .before in
+    let found = c .before .before .before .before .before .sight-of in
     rw (
-      shown (args .table .now) (args .base .now) (args .shadow .now) (args .n) (args .k) (found .result) none (found .ensures),
-      c .before .before .if3 .taken,
+      sight-given _ _ _ _ _ (accepted (asked .before .before)) (none-early asked) (found .result) (found .ensures) (c .before .before .before .if3 .left),
+      c .before .before .if4 .taken,
       ← c .before .base-place .ensures,
       card-size,
     )
-    (refl, (refl, (refl, record { points = refl; size = whole _ _ (part-result-end (c .before)) })))
+    (c .before .before .before .if3 .left, (refl, (refl, record { points = refl; size = whole _ _ (part-result-end (c .before)) })))
+
+-- the nearest version is the store's, or that of an action
+holder-known : (c : tie.Else3) → c .before .before .sight-of .result .holder ≤ mostActions
+holder-known c =
+    let asked = c .before .before .before in
+    let found = c .before .before .sight-of in
+    holder-few _ _ _ _ _ (accepted (asked .before .before)) (none-early asked) (found .result) (found .ensures) (c .if3 .left)
+    (read-allowed asked .numberKnown)
 
 shadow-place-requires : tie.Need-shadow-place-requires
 shadow-place-requires c κs =
-    omega (arith, holder-known (c .before), read-allowed (c .before .before) .accountKnown refl)
+    omega (arith, holder-known (c .before), read-allowed (c .before .before .before .before) .accountKnown refl)
 
 add-to-2 : tie.Need-add-to-2
 add-to-2 c =
@@ -159,7 +153,7 @@ add-to-2 c =
       arith,
       c .shadow-place .ensures,
       holder-known (c .before .before),
-      read-allowed (c .before .before .before) .accountKnown refl,
+      read-allowed (c .before .before .before .before .before) .accountKnown refl,
     )
 
 sub-result-2 : tie.Need-sub-result-2
@@ -170,26 +164,26 @@ part-result-start-2 c = search needs
 
 part-result-end-2 : tie.Need-part-result-end-2
 part-result-end-2 c =
+    let asked = c .before .before .before .before .before in
     omega (
       arith,
       c .shadow-place .ensures,
       holder-known (c .before .before),
-      read-allowed (c .before .before .before) .accountKnown refl,
-      read-allowed (c .before .before .before) .shadowFits,
+      read-allowed asked .accountKnown refl,
+      accepted (asked .before .before) .0 .shadowFits,
     )
 
-returns-4 : tie.Need-returns-4
-returns-4 c =
-    let args = c .before .before .before .before .before .before .before .before .before .before .before .before .args in
-    let none = cause-asked (c .before .before .before .before .before) ∙ c .before .before .before .before .if2 .left in
-    let found = c .before .before .before .nearest in
+returns-5 : tie.Need-returns-5
+returns-5 c =
+    let asked = c .before .before .before .before .before .before in
+    let found = c .before .before .before .before .before .sight-of in
     rw (
-      shown (args .table .now) (args .base .now) (args .shadow .now) (args .n) (args .k) (found .result) none (found .ensures),
-      ne-eqb (found .result .holder) 0 (c .before .before .if3 .left),
+      sight-given _ _ _ _ _ (accepted (asked .before .before)) (none-early asked) (found .result) (found .ensures) (c .before .before .before .if3 .left),
+      ne-eqb (found .result .holder) 0 (c .before .before .if4 .left),
       ← c .before .shadow-place .ensures,
       card-size,
     )
-    (refl, (refl, (refl, record { points = refl; size = whole _ _ (part-result-end-2 (c .before)) })))
+    (c .before .before .before .if3 .left, (refl, (refl, record { points = refl; size = whole _ _ (part-result-end-2 (c .before)) })))
 
 pub look-spec : {M : Type 1} → statement M
 look-spec =
@@ -202,16 +196,17 @@ look-spec =
     returns
     event-cause-requires
     returns-2
-    nearest-requires
+    sight-of-requires
+    returns-3
     base-place-requires
     add-to
     sub-result
     part-result-start
     part-result-end
-    returns-3
+    returns-4
     shadow-place-requires
     add-to-2
     sub-result-2
     part-result-start-2
     part-result-end-2
-    returns-4)
+    returns-5)

@@ -11,23 +11,23 @@ use Rattle.listing.proofs.lines.put_line.Tie as tie
 put-number-requires : tie.Need-put-number-requires
 put-number-requires c κs =
     let a = c .before .before .args in
-    omega (arith, line-length (a .kind) (a .first) (a .second) (a .place))
+    omega (arith, line-length (a .kind) (a .first) (a .second) (a .third) (a .place))
 
 put-byte-requires : tie.Need-put-byte-requires
 put-byte-requires c κs =
     let a = c .before .before .before .before .before .before .args in
-    omega (arith, line-length (a .kind) (a .first) (a .second) (a .place))
+    omega (arith, line-length (a .kind) (a .first) (a .second) (a .third) (a .place))
 
 put-answer-requires : tie.Need-put-answer-requires
 put-answer-requires c κs =
     let a = c .before .before .before .before .before .before .before .before .before .before .args in
-    omega (arith, line-length (a .kind) (a .first) (a .second) (a .place))
+    omega (arith, line-length (a .kind) (a .first) (a .second) (a .third) (a .place))
 
 put-byte-requires-2 : tie.Need-put-byte-requires-2
 put-byte-requires-2 c κs =
     let parted = c .before .before .before .before .before .before .before in
     let a = parted .before .before .before .before .before .before .before .args in
-    omega (arith, line-length (a .kind) (a .first) (a .second) (a .place))
+    omega (arith, line-length (a .kind) (a .first) (a .second) (a .third) (a .place))
 
 same-length : tie.Need-same-length
 same-length c = search needs

@@ -62,10 +62,22 @@ mul-put-line-6 c = search needs
 shared-slice-read-put-line-3 : tie.Need-shared-slice-read-put-line-3 Inv-loop μ-loop
 shared-slice-read-put-line-3 c = search needs
 
+mul-put-line-7 : tie.Need-mul-put-line-7 Inv-loop μ-loop
+mul-put-line-7 c = search needs
+
+add-put-line-4 : tie.Need-add-put-line-4 Inv-loop μ-loop
+add-put-line-4 c = search needs
+
+mul-put-line-8 : tie.Need-mul-put-line-8 Inv-loop μ-loop
+mul-put-line-8 c = search needs
+
+shared-slice-read-put-line-4 : tie.Need-shared-slice-read-put-line-4 Inv-loop μ-loop
+shared-slice-read-put-line-4 c = search needs
+
 put-line-requires : tie.Need-put-line-requires Inv-loop μ-loop
 put-line-requires c κs =
-    let loop = c .before .before .before .before .before .loop in
-    line-fits _ (loop .i) _ _ _ _ (loop .inv .2 .0) (omega arith) (omega arith) (omega arith)
+    let loop = c .before .before .before .before .before .before .loop in
+    line-fits _ (loop .i) _ _ _ _ _ (loop .inv .2 .0) (omega arith) (omega arith) (omega arith)
 
 add-i : tie.Need-add-i Inv-loop μ-loop
 add-i c = search needs
@@ -75,7 +87,7 @@ loop-less c = omega arith
 
 loop-again : tie.Need-loop-again Inv-loop μ-loop
 loop-again c =
-    let loop = c .before .before .before .before .before .before .before .before .loop in
+    let loop = c .before .before .before .before .before .before .before .before .before .loop in
     (omega arith, search needs, rw lines-next (put-then _ _ _ _ (loop .inv .2) (c .before .before .put-line .ensures)))
 
 same-length : tie.Need-same-length Inv-loop μ-loop
@@ -105,6 +117,10 @@ put-lines-spec =
     add-put-line-3
     mul-put-line-6
     shared-slice-read-put-line-3
+    mul-put-line-7
+    add-put-line-4
+    mul-put-line-8
+    shared-slice-read-put-line-4
     put-line-requires
     add-i
     loop-less

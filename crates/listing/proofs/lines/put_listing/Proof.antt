@@ -1,5 +1,5 @@
 -- `put_listing` meets its contract: the lines are put at the front of the buffer and the last line right behind them, and a
--- buffer of 65,536 bytes has room for both. Assumes nothing.
+-- buffer of 81,920 bytes has room for both. Assumes nothing.
 use native.Mathlib.Omega.{arith}
 use mathlib.Core.Path.{sym}
 use borrow.Author.Needs.{needs}

@@ -3,23 +3,23 @@ use native.Mathlib.Nat.{zero-add}
 use native.Mathlib.Omega.{arith}
 use borrow.Author.Needs.{needs}
 use Rattle.rules.specs.Encoding.{refusedKind}
-use Rattle.listing.specs.Buffer.{wordOf, numbersOf, textOf}
+use Rattle.listing.specs.Buffer.{wordOf, numbersOf, saidSum, textOf}
 use Rattle.listing.proofs.Texts.{put-then}
 use Rattle.listing.proofs.Bounds.{text-bound}
 use Rattle.listing.proofs.lines.put_refused.Statement.{statement}
 use Rattle.listing.proofs.lines.put_refused.Tie as tie
 
 put-answer-requires : tie.Need-put-answer-requires
-put-answer-requires c κs = omega (arith, text-bound refusedKind (c .before .before .args .fault) 0)
+put-answer-requires c κs = omega (arith, text-bound refusedKind (c .before .before .args .fault) 0 0)
 
 put-byte-requires : tie.Need-put-byte-requires
-put-byte-requires c κs = omega (arith, text-bound refusedKind (c .before .before .before .before .before .before .args .fault) 0)
+put-byte-requires c κs = omega (arith, text-bound refusedKind (c .before .before .before .before .before .before .args .fault) 0 0)
 
 same-length : tie.Need-same-length
 same-length c = search needs
 
 returns : tie.Need-returns
-unfolding wordOf numbersOf textOf
+unfolding wordOf numbersOf saidSum textOf
 returns c =
     let said = c .before .before .before .before .before .before .put-answer in
     let put = put-then _ _ _ _ (said .ensures) (c .before .before .put-byte .ensures) in

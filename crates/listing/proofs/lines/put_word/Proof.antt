@@ -1,28 +1,34 @@
 -- `put_word` meets its contract: the arm of each number puts the word that the definition gives for it, and the last arm is
--- reached by the numbers from abortedKind on alone. Assumes nothing.
-use Prim.Native.Nat.{ℕ, _≤_}
-use native.Mathlib.Omega.{arith}
+-- reached by every other number. Assumes nothing.
+use Prim.Native.Nat.{ℕ}
 use mathlib.Core.Path.{_≡_}
+use mathlib.Core.Logic.{_≢_}
 use borrow.Author.Needs.{needs}
 use borrow.Author.Tests.{ne-eqb}
-use Rattle.rules.specs.declared.Answer.the-variants.{Aborted}
+use Rattle.rules.specs.declared.Answer.the-variants.{ReadSum}
 use Rattle.rules.specs.Answer.{said}
-use Rattle.rules.specs.Encoding.{refusedKind, startedKind, readKind, writtenKind, committedKind, failedKind, abortedKind}
+use Rattle.rules.specs.Encoding.{refusedKind, startedKind, readKind, writtenKind, committedKind, failedKind, abortedKind, addedKind}
 use Rattle.listing.specs.Buffer.{wordOf}
 use Rattle.listing.proofs.lines.put_word.Statement.{statement}
 use Rattle.listing.proofs.lines.put_word.Tie as tie
 
--- the word of every number but the first six
-last-word : (kind : ℕ) → abortedKind ≤ kind → wordOf kind ≡ said (Aborted 0) .word
+-- the word of every number but the first eight, which are left out one by one
+last-word :
+    (kind : ℕ) →
+    ((((((((Unit {0} × (kind ≢ refusedKind)) × (kind ≢ startedKind)) × (kind ≢ readKind)) × (kind ≢ writtenKind))
+    × (kind ≢ committedKind)) × (kind ≢ failedKind)) × (kind ≢ abortedKind)) × (kind ≢ addedKind)) →
+    wordOf kind ≡ said (ReadSum 0 0 0) .word
 unfolding wordOf
-last-word kind h =
+last-word kind ((((((((_, refused), started), read), written), committed), failed), aborted), added) =
     rw (
-      ne-eqb kind refusedKind (omega arith),
-      ne-eqb kind startedKind (omega arith),
-      ne-eqb kind readKind (omega arith),
-      ne-eqb kind writtenKind (omega arith),
-      ne-eqb kind committedKind (omega arith),
-      ne-eqb kind failedKind (omega arith),
+      ne-eqb kind refusedKind refused,
+      ne-eqb kind startedKind started,
+      ne-eqb kind readKind read,
+      ne-eqb kind writtenKind written,
+      ne-eqb kind committedKind committed,
+      ne-eqb kind failedKind failed,
+      ne-eqb kind abortedKind aborted,
+      ne-eqb kind addedKind added,
     )
 
 slice-aggregate-put-text : tie.Need-slice-aggregate-put-text
@@ -71,8 +77,22 @@ slice-aggregate-put-text-7 : tie.Need-slice-aggregate-put-text-7
 slice-aggregate-put-text-7 c = search needs
 
 put-text-requires-7 : tie.Need-put-text-requires-7
-put-text-requires-7 c κs =
-    rw (last-word (c .before .before .before .before .args .kind) (omega arith)) at (c .before .before .before .before .pre)
+unfolding wordOf
+put-text-requires-7 c κs = rw (c .before .before .match .keys7) at (c .before .before .before .before .pre)
+
+slice-aggregate-put-text-8 : tie.Need-slice-aggregate-put-text-8
+slice-aggregate-put-text-8 c = search needs
+
+put-text-requires-8 : tie.Need-put-text-requires-8
+unfolding wordOf
+put-text-requires-8 c κs = rw (c .before .before .match .keys8) at (c .before .before .before .before .pre)
+
+slice-aggregate-put-text-9 : tie.Need-slice-aggregate-put-text-9
+slice-aggregate-put-text-9 c = search needs
+
+put-text-requires-9 : tie.Need-put-text-requires-9
+put-text-requires-9 c κs =
+    rw (last-word _ (c .before .before .match .rest)) at (c .before .before .before .before .pre)
 
 same-length : tie.Need-same-length
 same-length c = search needs
@@ -120,9 +140,23 @@ same-length-7 : tie.Need-same-length-7
 same-length-7 c = search needs
 
 returns-7 : tie.Need-returns-7
-returns-7 c =
-    rw (last-word (c .before .before .before .before .before .before .before .args .kind) (omega arith))
-    (c .before .before .put-text7 .ensures)
+unfolding wordOf
+returns-7 c = rw (c .before .before .before .before .before .match .keys7) (c .before .before .put-text7 .ensures)
+
+same-length-8 : tie.Need-same-length-8
+same-length-8 c = search needs
+
+returns-8 : tie.Need-returns-8
+unfolding wordOf
+returns-8 c = rw (c .before .before .before .before .before .match .keys8) (c .before .before .put-text8 .ensures)
+
+same-length-9 : tie.Need-same-length-9
+same-length-9 c = search needs
+
+returns-9 : tie.Need-returns-9
+returns-9 c =
+    rw (last-word _ (c .before .before .before .before .before .match .rest))
+    (c .before .before .put-text9 .ensures)
 
 pub put-word-spec : {M : Type 1} → statement M
 put-word-spec =
@@ -142,6 +176,10 @@ put-word-spec =
     put-text-requires-6
     slice-aggregate-put-text-7
     put-text-requires-7
+    slice-aggregate-put-text-8
+    put-text-requires-8
+    slice-aggregate-put-text-9
+    put-text-requires-9
     same-length
     returns
     same-length-2
@@ -155,4 +193,8 @@ put-word-spec =
     same-length-6
     returns-6
     same-length-7
-    returns-7)
+    returns-7
+    same-length-8
+    returns-8
+    same-length-9
+    returns-9)

@@ -24,6 +24,12 @@ enum-known-a-5 c = search needs
 enum-known-a-6 : tie.Need-enum-known-a-6
 enum-known-a-6 c = search needs
 
+enum-told-2 : tie.Need-enum-told-2
+enum-told-2 c = search needs
+
+enum-known-a-7 : tie.Need-enum-known-a-7
+enum-known-a-7 c = search needs
+
 returns : tie.Need-returns
 returns c = rw (c .before .a .given .1)
 
@@ -45,6 +51,12 @@ returns-6 c = rw (c .before .a5 .given .1)
 returns-7 : tie.Need-returns-7
 returns-7 c = rw (c .before .a6 .given .1)
 
+returns-8 : tie.Need-returns-8
+returns-8 c = rw (c .enum-told2 .given .1)
+
+returns-9 : tie.Need-returns-9
+returns-9 c = rw (c .before .a7 .given .1)
+
 pub words-spec : {M : Type 1} → statement M
 words-spec =
     tie.close
@@ -56,10 +68,14 @@ words-spec =
     enum-known-a-4
     enum-known-a-5
     enum-known-a-6
+    enum-told-2
+    enum-known-a-7
     returns
     returns-2
     returns-3
     returns-4
     returns-5
     returns-6
-    returns-7)
+    returns-7
+    returns-8
+    returns-9)

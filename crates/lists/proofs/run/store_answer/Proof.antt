@@ -1,6 +1,6 @@
--- `store_answer` stores the three words of the answer. Assumes nothing.
+-- `store_answer` stores the four words of the answer. Assumes nothing.
 use borrow.Author.Needs.{needs}
-use Rattle.rules.proofs.Laws.AnswerWords.{three-words}
+use Rattle.rules.proofs.Laws.AnswerWords.{four-words}
 use Rattle.lists.proofs.run.store_answer.Statement.{statement}
 use Rattle.lists.proofs.run.store_answer.Tie as tie
 
@@ -16,6 +16,9 @@ array-read-store-words-2 c = search needs
 array-read-store-words-3 : tie.Need-array-read-store-words-3
 array-read-store-words-3 c = search needs
 
+array-read-store-words-4 : tie.Need-array-read-store-words-4
+array-read-store-words-4 c = search needs
+
 store-words-requires : tie.Need-store-words-requires
 store-words-requires c κs = search needs
 
@@ -25,7 +28,7 @@ same-length c = search needs
 returns : tie.Need-returns
 returns c =
     let made = c .before .before .before .before in
-    rw (← three-words (made .before .before .args .a)) (rw (made .words .ensures) at (c .before .before .store-words .ensures))
+    rw (← four-words (made .before .before .args .a)) (rw (made .words .ensures) at (c .before .before .store-words .ensures))
 
 pub store-answer-spec : {M : Type 1} → statement M
 store-answer-spec =
@@ -35,6 +38,7 @@ store-answer-spec =
     array-read-store-words
     array-read-store-words-2
     array-read-store-words-3
+    array-read-store-words-4
     store-words-requires
     same-length
     returns)

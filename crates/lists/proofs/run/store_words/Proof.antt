@@ -1,6 +1,6 @@
--- `store_words` meets its contract: three words put one behind the other are their list put at the first's place.
+-- `store_words` meets its contract: four words put one behind the other are their list put at the first's place.
 -- Assumes nothing.
-use native.Mathlib.Numerals.{add-one, add-two}
+use native.Mathlib.Numerals.{add-one, add-two, add-three}
 use native.Mathlib.Omega.{arith}
 use mathlib.Core.List.{[], _∷_}
 use borrow.Author.Needs.{needs}
@@ -33,14 +33,23 @@ mul-buffer-3 c = search needs
 slice-write-buffer-3 : tie.Need-slice-write-buffer-3
 slice-write-buffer-3 c = simp length-set (omega arith)
 
+add-buffer-3 : tie.Need-add-buffer-3
+add-buffer-3 c = search needs
+
+mul-buffer-4 : tie.Need-mul-buffer-4
+mul-buffer-4 c = search needs
+
+slice-write-buffer-4 : tie.Need-slice-write-buffer-4
+slice-write-buffer-4 c = simp length-set (omega arith)
+
 same-length : tie.Need-same-length
 same-length c = simp length-set
 
 returns : tie.Need-returns
 returns c =
     let args = c .args in
-    rw (add-one (args .at), add-two (args .at))
-    (sets-eq (args .kind ∷ args .first ∷ args .second ∷ []) (args .buffer .now) (args .at) (c .pre))
+    rw (add-one (args .at), add-two (args .at), add-three (args .at))
+    (sets-eq (args .kind ∷ args .first ∷ args .second ∷ args .third ∷ []) (args .buffer .now) (args .at) (c .pre))
 
 pub store-words-spec : {M : Type 1} → statement M
 store-words-spec =
@@ -54,5 +63,8 @@ store-words-spec =
     add-buffer-2
     mul-buffer-3
     slice-write-buffer-3
+    add-buffer-3
+    mul-buffer-4
+    slice-write-buffer-4
     same-length
     returns)

@@ -1,29 +1,30 @@
--- `clear_fields` meets its contract: the fields of all accounts cleared in the table at entry are those of the accounts from
--- `k` on cleared in the present table, `k` the account at the loop's head. Assumes nothing.
+-- `clear_fields` meets its contract: the fields of the accounts from `from` on, cleared in the table at entry, are those of the
+-- accounts from `k` on cleared in the present table, `k` the account at the loop's head. Assumes nothing.
 use Prim.Native.Nat.{_+_, _≤_, _-_}
 use native.Mathlib.Omega.{arith}
 use mathlib.Core.Path.{_≡_, refl, sym, _∙_}
 use lib.ListN.{length}
 use borrow.Author.Needs.{needs}
-use Rattle.rules.specs.Card.{accounts, accountCount}
+use Rattle.rules.specs.Card.{accountCount}
 use Rattle.rules.specs.Range.{upFrom, fold}
 use Rattle.rules.specs.Table.{withWord, withFields}
 use Rattle.rules.proofs.Laws.Ranges.{fold-left-next, fold-left-done}
+use Rattle.rows.specs.Row.{accountsFrom}
 use Rattle.rows.proofs.sets.clear_fields.Statement.{statement}
 use Rattle.rows.proofs.sets.clear_fields.Tie as tie
 
 abbrev Inv-loop : tie.InvT-loop
-Inv-loop table₀ n first k₀ table k =
+Inv-loop table₀ n first from k₀ table k =
     (k ≤ accountCount)
     × (length table ≡ length table₀)
-    × (withFields table₀ n (λ k. first + k) accounts (λ k. 0)
+    × (withFields table₀ n (λ k. first + k) (accountsFrom from) (λ k. 0)
     ≡ fold (λ k now. withWord now n (first + k) 0) (upFrom k (accountCount - k)) table)
 
 abbrev μ-loop : tie.MeasureT-loop
-μ-loop table₀ n first k₀ table k = accountCount - k
+μ-loop table₀ n first from k₀ table k = accountCount - k
 
 loop-holds : tie.Need-loop-holds Inv-loop μ-loop
-unfolding withFields accounts
+unfolding withFields
 loop-holds c = (omega arith, refl, refl)
 
 add-put : tie.Need-add-put Inv-loop μ-loop

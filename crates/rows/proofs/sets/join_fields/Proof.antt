@@ -30,7 +30,7 @@ loop-holds c =
     let args = c .before .args in (
       omega arith,
       refl,
-      joined-in-place _ _ _ (joinedEntry (args .reads)) (λ k. args .first + k) 0 accountCount (c .before .pre .1 .1 .0)
+      joined-in-place _ _ _ (c .before .pre .1 .1 .0) (joinedEntry (args .reads)) (λ k. args .first + k) 0 accountCount
           (λ k h. omega (arith, c .before .pre .1 .1 .1)) (λ k j h kj z. omega arith),
     )
 

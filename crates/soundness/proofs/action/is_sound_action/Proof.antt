@@ -83,7 +83,7 @@ has-end-alone-requires c κs = search needs
 returns-6 : tie.Need-returns-6
 unfolding isSoundAction
 returns-6 c =
-    let five = c .before in
+    let five = c .before .before in
     let four = five .before .before in
     let three = four .before .before in
     let two = three .before .before in
@@ -94,7 +94,29 @@ returns-6 c =
       held (three .before .has-parent-alive .ensures) (three .if3 .left),
       held (four .before .has-read-in-time .ensures) (four .if4 .left),
       held (five .before .has-end-in-time .ensures) (five .if5 .left),
-      c .has-end-alone .ensures,
+      failed (c .before .has-end-alone .ensures) (c .if6 .taken),
+    )
+
+has-pending-written-requires : tie.Need-has-pending-written-requires
+has-pending-written-requires c κs = search needs
+
+returns-7 : tie.Need-returns-7
+unfolding isSoundAction
+returns-7 c =
+    let six = c .before in
+    let five = six .before .before in
+    let four = five .before .before in
+    let three = four .before .before in
+    let two = three .before .before in
+    let one = two .before .before in
+    rw (
+      held (one .before .has-state .ensures) (one .if1 .left),
+      held (two .before .has-parent-below .ensures) (two .if2 .left),
+      held (three .before .has-parent-alive .ensures) (three .if3 .left),
+      held (four .before .has-read-in-time .ensures) (four .if4 .left),
+      held (five .before .has-end-in-time .ensures) (five .if5 .left),
+      held (six .before .has-end-alone .ensures) (six .if6 .left),
+      c .has-pending-written .ensures,
     )
 
 pub is-sound-action-spec : {M : Type 1} → statement M
@@ -112,4 +134,6 @@ is-sound-action-spec =
     has-end-in-time-requires
     returns-5
     has-end-alone-requires
-    returns-6)
+    returns-6
+    has-pending-written-requires
+    returns-7)

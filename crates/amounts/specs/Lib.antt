@@ -1,0 +1,3 @@
+-- Words among bytes, and sums of amounts.
+pub mod Word
+pub mod Sum

@@ -1,0 +1,2 @@
+-- Facts that the proofs of walks use.
+mod Summing

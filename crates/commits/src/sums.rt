@@ -1,0 +1,61 @@
+// The sums that a commit makes, with its parent's pending sums or with the base amounts.
+ghost use mathlib.Core.Path.{_≡_};
+ghost use Rattle.rules.specs.Card.{IsBase, IsCharge};
+ghost use Rattle.rules.specs.Cause.{commitSum, isCommitOutside};
+ghost use Rattle.rules.specs.Sound.{IsStarted, Sound};
+ghost use Rattle.rules.specs.declared.Found.the-variants.{Nothing};
+ghost use Rattle.amounts.specs.Sum.{valueOf};
+ghost use Rattle.commits.specs.Settle.{isSumWrong};
+use amounts::bytes::word_at;
+use amounts::sum::Sum;
+use amounts::sum::is_amount;
+use amounts::sum::of_word;
+use amounts::sum::plus;
+use rows::fields::has_written;
+use rows::fields::parent;
+use rows::fields::pending;
+use rules::store::ACCOUNTS;
+use rules::store::FIRST_CHARGE;
+use rules::table::STORE;
+use stores::place::base_place;
+
+// What n's pending sum for the account makes with its parent's, or with the base amount.
+fn commit_sum(table: &[u64], base: &[u8], n: u64, k: u64) -> Sum
+    requires { ⌜ Sound (now table) × IsStarted (now table) n ⌝ }
+    requires { ⌜ IsBase (now base) ⌝ }
+    requires { ⌜ IsCharge k ⌝ }
+    ensures { λ r. ⌜ valueOf r ≡ commitSum (now (table .entry)) (now (base .entry)) n k ⌝ }
+{
+    let own = pending(table, n, k);
+    let p = parent(table, n);
+    if p == STORE {
+        return plus(of_word(word_at(base, base_place(k))), own);
+    }
+    plus(of_word(pending(table, p, k)), own)
+}
+
+fn is_sum_wrong(table: &[u64], base: &[u8], n: u64, k: u64) -> bool
+    requires { ⌜ Sound (now table) × IsStarted (now table) n ⌝ }
+    requires { ⌜ IsBase (now base) ⌝ }
+    requires { ⌜ IsCharge k ⌝ }
+    ensures { λ r. ⌜ r ≡ isSumWrong (now (table .entry)) (now (base .entry)) n k ⌝ }
+{
+    if !has_written(table, n, k) {
+        return false;
+    }
+    !is_amount(commit_sum(table, base, n, k))
+}
+
+// One of the sums of n's commit is no amount.
+pub(crate) fn is_outside(table: &[u64], base: &[u8], n: u64) -> bool
+    requires { ⌜ Sound (now table) × IsStarted (now table) n ⌝ }
+    requires { ⌜ IsBase (now base) ⌝ }
+    ensures { λ r. ⌜ r ≡ isCommitOutside (now (table .entry)) (now (base .entry)) n Nothing ⌝ }
+{
+    for k in FIRST_CHARGE..ACCOUNTS {
+        if is_sum_wrong(table, base, n, k) {
+            return true;
+        }
+    }
+    false
+}

@@ -1,0 +1,2 @@
+-- What a step is, kind by kind, where no early cause applies.
+mod Summed

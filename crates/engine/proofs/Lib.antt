@@ -1,0 +1,2 @@
+-- What a look is at, where no early cause applies.
+mod Sights

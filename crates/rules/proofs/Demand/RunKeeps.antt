@@ -1,0 +1,124 @@
+-- What the collector and the engine keep through every event is kept through every list of events, whatever the judging rule.
+-- Assumes nothing.
+use Prim.Native.Nat.{ℕ, suc, _<_}
+use mathlib.Core.Path.{_≡_, _∙_}
+use mathlib.Core.Bool.{true, false}
+use mathlib.Core.List.{List, [], _∷_}
+use lib.IntN.{_+ℤ_}
+use Rattle.rules.specs.declared.Found.{Found}
+use Rattle.rules.specs.declared.Found.the-variants.{Nothing, At}
+use Rattle.rules.specs.Card.{firstCharge, IsCharge, IsCard}
+use Rattle.rules.specs.Amount.{isAmount, amountIn}
+use Rattle.rules.specs.Table.{pendingSum}
+use Rattle.rules.specs.Event.{Event}
+use Rattle.rules.specs.Answer.{said}
+use Rattle.rules.specs.Clash.{firstClash}
+use Rattle.rules.specs.Cause.{isReadOutside, isCommitOutside}
+use Rattle.rules.specs.Ledger.{Ledger}
+use Rattle.rules.specs.Step.{Outcome, start, read, write, add, judged, abort, step}
+use Rattle.rules.specs.Run.{run}
+use Rattle.rules.specs.Serial.Told.{told}
+use Rattle.rules.specs.Serial.Collect.{Known, commitsAt, laidAll, stepped, collectOne, collectFrom}
+use Rattle.rules.proofs.Laws.Permitted.{Startable, Touchable, Committable, step-by-kind}
+use Rattle.rules.proofs.Serial.Values.{AccountValue}
+use Rattle.rules.proofs.Serial.Settling.{whole-card, charge-sum}
+use Rattle.rules.proofs.Demand.Proper.{Proper, step-keeps-proper}
+use Rattle.rules.proofs.Demand.Looks.{lookedIn, seenWith, shownUnder}
+use Rattle.rules.proofs.Demand.Reads.{read-told}
+use Rattle.rules.proofs.Demand.ReadGiven.{read-seen, read-ground}
+use Rattle.rules.proofs.Demand.Writes.{write-enters}
+use Rattle.rules.proofs.Demand.Adds.{add-enters}
+use Rattle.rules.proofs.Demand.Drops.{abort-drops, fail-drops}
+use Rattle.rules.proofs.Demand.JudgingRule.{JudgingRule}
+use Rattle.rules.proofs.Demand.Collected.{Kept, drop-kept, start-kept, read-kept, enter-kept, pass-kept}
+
+-- ---- what a place was given
+
+-- an event's action and account, were they a read's that was answered so: what the reader saw, and what the base showed
+abbrev seenAfter : Event → Outcome → AccountValue
+seenAfter e o = seenWith (said (o .answer) .sum) (o .after) (e .number) (e .account)
+
+abbrev groundAfter : Event → Outcome → AccountValue
+groundAfter e o = shownUnder (lookedIn (o .after) (e .number) (e .account))
+
+-- ---- one event
+
+module _
+    (J : JudgingRule) (got ground opening : ℕ → AccountValue) (i : ℕ) (e : Event) {s : Ledger} {c : Known}
+    (kept : Kept J got ground opening s c) where
+  -- what is kept is kept after an outcome that is proper, where got and ground have what it gives
+  KeptAfter : Outcome → Type 0
+  KeptAfter o =
+      Proper (o .after) → seenAfter e o ≡ got i → groundAfter e o ≡ ground i →
+      Kept J got ground opening (o .after) (collectOne i e (told (o .answer)) (commitsAt e (told (o .answer))) c)
+
+  starts : Startable (s .table) (e .number) → KeptAfter (start s (e .number))
+  unfolding KeptAfter start collectOne commitsAt stepped laidAll
+  starts permitted proper′ seen below = start-kept J got ground opening kept i (e .number) permitted proper′
+
+  reads :
+      Touchable (s .table) (e .number) (e .account) → isReadOutside (s .table) (s .base) (e .number) (e .account) ≡ false →
+      KeptAfter (read s (e .number) (e .account))
+  unfolding KeptAfter read collectOne commitsAt stepped laidAll
+  reads permitted fits proper′ seen below =
+      rw (read-told (s .table) (s .base) (e .number) (e .account))
+      (read-kept J got ground opening kept i (e .number) (e .account) permitted proper′
+      (read-seen s (kept .proper) (e .number) (e .account) permitted fits ∙ seen)
+      (λ is. read-ground s (kept .proper) (e .number) (e .account) permitted fits is ∙ below))
+
+  writes :
+      Touchable (s .table) (e .number) (e .account) → IsCard (e .card) → e .account < firstCharge →
+      KeptAfter (write s (e .number) (e .account) (e .card))
+  unfolding KeptAfter write collectOne commitsAt stepped laidAll
+  writes permitted card plain proper′ seen below =
+      enter-kept J got ground opening kept i (e .number) (e .account) permitted
+      (write-enters s (kept .proper) (e .number) (e .account) permitted plain (e .card) card) (whole-card plain card)
+      (J .at-write s (kept .proper) (e .number) (e .account) permitted plain (e .card) card)
+
+  joins :
+      Touchable (s .table) (e .number) (e .account) → IsCharge (e .account) →
+      isAmount (pendingSum (s .table) (e .number) (e .account) +ℤ amountIn (e .card)) ≡ true →
+      KeptAfter (add s (e .number) (e .account) (e .card))
+  unfolding KeptAfter add collectOne commitsAt stepped laidAll
+  joins permitted charge fits proper′ seen below =
+      enter-kept J got ground opening kept i (e .number) (e .account) permitted
+      (add-enters s (kept .proper) (e .number) (e .account) permitted charge (e .card) fits) (charge-sum charge)
+      (J .at-add s (kept .proper) (e .number) (e .account) permitted charge (e .card) fits)
+
+  judges :
+      Committable (s .table) (e .number) → (f : Found) → firstClash (s .table) (e .number) ≡ f →
+      isCommitOutside (s .table) (s .base) (e .number) f ≡ false → KeptAfter (judged s (e .number) f)
+  unfolding KeptAfter judged collectOne commitsAt stepped laidAll
+  judges j Nothing clear fits proper′ seen below =
+      pass-kept J got ground opening kept i (e .number) j fits proper′ (J .passes s (kept .proper) (e .number) j clear)
+  judges j (At t k) clash fits proper′ seen below =
+      drop-kept J got ground opening kept i _ proper′
+      (fail-drops s (kept .proper) (e .number) j) (J .at-failed-commit s (kept .proper) (e .number) j)
+
+  aborts : KeptAfter (abort s (e .number))
+  unfolding KeptAfter abort collectOne commitsAt stepped laidAll
+  aborts proper′ seen below =
+      drop-kept J got ground opening kept i _ proper′
+      (abort-drops s (kept .proper) (e .number)) (J .at-abort s (kept .proper) (e .number))
+
+  step-keeps : KeptAfter (step s e)
+  unfolding KeptAfter collectOne commitsAt stepped laidAll
+  step-keeps = step-by-kind s e KeptAfter (λ _ _ _. kept) starts reads writes judges (λ permitted _. joins permitted) aborts
+
+-- ---- a list of events
+
+-- from place i on, each event gives what `got` and `ground` have there
+unfoldable pub GivesAlong : (got ground : ℕ → AccountValue) → ℕ → Ledger → List Event → Type 0
+GivesAlong got ground i s [] = Unit {0}
+GivesAlong got ground i s (e ∷ es) =
+    (seenAfter e (step s e) ≡ got i) × (groundAfter e (step s e) ≡ ground i) × GivesAlong got ground (suc i) (step s e .after) es
+
+pub run-keeps :
+    (J : JudgingRule) (got ground opening : ℕ → AccountValue) (i : ℕ) (es : List Event) {s : Ledger} {c : Known} →
+    Kept J got ground opening s c → GivesAlong got ground i s es →
+    Kept J got ground opening (run s es .after) (collectFrom i es (run s es .answers) c)
+unfolding run collectFrom GivesAlong KeptAfter
+run-keeps J got ground opening i [] kept given = kept
+run-keeps J got ground opening i (e ∷ es) {s} kept (seen, below, later) =
+    run-keeps J got ground opening (suc i) es
+    (step-keeps J got ground opening i e kept (step-keeps-proper s e (kept .proper)) seen below) later
