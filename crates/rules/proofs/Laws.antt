@@ -11,6 +11,7 @@ pub mod Cards
 pub mod Bytes
 pub mod CopiedPart
 pub mod AnswerWords
+pub mod CauseOrder
 pub mod Allowed
 pub mod EventCases
 pub mod Permitted
