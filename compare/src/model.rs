@@ -52,7 +52,7 @@ pub struct Action {
     pub parent: u64,
     pub state: State,
     pub end: u64,
-    /// The time of the first read, for each account in the read set.
+    /// The time of the first read that counts, for each account in the read set.
     pub reads: [Option<u64>; ACCOUNTS],
     /// Not 0 for each account in the write set.
     pub writes: [u64; ACCOUNTS],
@@ -352,7 +352,10 @@ impl Ledger {
     fn read(&mut self, n: u64, account: usize) -> Result<Answer, u64> {
         let sum = self.sum_seen(n, account)?;
         let now = self.table.counter;
-        self.table.action_mut(n).reads[account].get_or_insert(now);
+        let me = self.table.action_mut(n);
+        if !me.has_card(account) {
+            me.reads[account].get_or_insert(now);
+        }
         let version = self.table.nearest(n, account);
         Ok(sum.map_or(Answer::Read(version), |sum| Answer::ReadSum(version, sum)))
     }
@@ -477,13 +480,16 @@ fn account_cause(e: &Event) -> Option<u64> {
     (adds && !is_small).then_some(cause::AMOUNT)
 }
 
-/// The union of both sets; of two read times the smaller.
+/// The union of both sets; of two read times the smaller. Where the parent has a card of its own already, its child's read
+/// stays behind.
 fn join(parent: &mut Action, child: &Action) {
     for k in 0..ACCOUNTS {
-        parent.reads[k] = match (parent.reads[k], child.reads[k]) {
-            (Some(a), Some(b)) => Some(a.min(b)),
-            (a, b) => a.or(b),
-        };
+        if !parent.has_card(k) {
+            parent.reads[k] = match (parent.reads[k], child.reads[k]) {
+                (Some(a), Some(b)) => Some(a.min(b)),
+                (a, b) => a.or(b),
+            };
+        }
         if child.writes[k] != 0 {
             parent.writes[k] = 1;
         }

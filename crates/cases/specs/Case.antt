@@ -162,9 +162,9 @@ cases =
     ∷ case
     (asking
     (startUnder 0 ∷ startUnder 0 ∷ writeBy 1 2 (filledWith 1) ∷ readBy 1 2 ∷ writeBy 2 2 (filledWith 2) ∷ commitOf 2 ∷ commitOf 1 ∷ [])
-    [] [])
+    (2 ∷ []) [])
     (giving
-    (Started 1 ∷ Started 2 ∷ Written ∷ Read 1 0 ∷ Written ∷ Committed 1 ∷ Failed 1 2 ∷ []) 2 1 [] [])
+    (Started 1 ∷ Started 2 ∷ Written ∷ Read 1 0 ∷ Written ∷ Committed 1 ∷ Committed 2 ∷ []) 2 2 (filledWith 1 ∷ []) [])
     -- 14
     ∷ case
     (asking
@@ -212,4 +212,48 @@ cases =
     (Started 1 ∷ Started 2 ∷ Refused 13 ∷ Refused 14 ∷ Refused 9 ∷ Refused 7 ∷ Refused 13
     ∷ Refused 13 ∷ Refused 14 ∷ Refused 14 ∷ Added ∷ Added
     ∷ Refused 3 ∷ Refused 9 ∷ []) 2 0 [] [])
+    -- 20
+    ∷ case
+    (asking
+    (startUnder 0 ∷ startUnder 1 ∷ readBy 2 3 ∷ writeBy 2 3 (filledWith 1) ∷ commitOf 2 ∷ startUnder 0 ∷ writeBy 3 3 (filledWith 2)
+    ∷ commitOf 3 ∷ commitOf 1 ∷ []) (3 ∷ []) [])
+    (giving
+    (Started 1 ∷ Started 2 ∷ Read 0 2 ∷ Written ∷ Committed 1 ∷ Started 3 ∷ Written
+    ∷ Committed 2 ∷ Failed 2 3 ∷ []) 3 2 (filledWith 2 ∷ []) [])
+    -- 21
+    ∷ case
+    (asking
+    (startUnder 0 ∷ writeBy 1 3 (filledWith 1) ∷ startUnder 1 ∷ startUnder 2 ∷ readBy 3 3 ∷ commitOf 3 ∷ startUnder 1
+    ∷ writeBy 4 3 (filledWith 2) ∷ commitOf 4 ∷ commitOf 2 ∷ []) [] [])
+    (giving
+    (Started 1 ∷ Written ∷ Started 2 ∷ Started 3 ∷ Read 1 2 ∷ Committed 0 ∷ Started 4
+    ∷ Written ∷ Committed 1 ∷ Failed 1 3 ∷ []) 4 1 [] [])
+    -- 22
+    ∷ case
+    (asking
+    (startUnder 0 ∷ adding 1 24 5 ∷ readBy 1 24 ∷ startUnder 0 ∷ adding 2 24 3 ∷ commitOf 2 ∷ commitOf 1 ∷ []) (24 ∷ []) [])
+    (giving
+    (Started 1 ∷ Added ∷ ReadSum 0 1 5 ∷ Started 2 ∷ Added ∷ Committed 1 ∷ Failed 1 24 ∷ []) 2 1 (amountCard (pos 3) ∷ []) [])
+    -- 23
+    ∷ case
+    (asking
+    (startUnder 0 ∷ startUnder 0 ∷ readBy 1 3 ∷ writeBy 1 3 (filledWith 1) ∷ readBy 1 3 ∷ writeBy 2 3 (filledWith 2) ∷ commitOf 2
+    ∷ commitOf 1 ∷ []) [] [])
+    (giving
+    (Started 1 ∷ Started 2 ∷ Read 0 1 ∷ Written ∷ Read 1 0 ∷ Written ∷ Committed 1 ∷ Failed 1 3 ∷ []) 2 1 [] [])
+    -- 24
+    ∷ case
+    (asking
+    (startUnder 0 ∷ writeBy 1 3 (filledWith 1) ∷ startUnder 1 ∷ readBy 2 3 ∷ commitOf 2 ∷ startUnder 0 ∷ writeBy 3 3 (filledWith 2)
+    ∷ commitOf 3 ∷ commitOf 1 ∷ []) (3 ∷ []) [])
+    (giving
+    (Started 1 ∷ Written ∷ Started 2 ∷ Read 1 1 ∷ Committed 0 ∷ Started 3 ∷ Written
+    ∷ Committed 1 ∷ Committed 2 ∷ []) 3 2 (filledWith 1 ∷ []) [])
+    -- 25
+    ∷ case
+    (asking
+    (startUnder 0 ∷ writeBy 1 3 (filledWith 1) ∷ startUnder 1 ∷ startUnder 1 ∷ readBy 2 3 ∷ writeBy 3 3 (filledWith 2) ∷ commitOf 3
+    ∷ commitOf 2 ∷ []) [] [])
+    (giving
+    (Started 1 ∷ Written ∷ Started 2 ∷ Started 3 ∷ Read 1 1 ∷ Written ∷ Committed 1 ∷ Failed 1 3 ∷ []) 3 1 [] [])
     ∷ []

@@ -16,7 +16,7 @@ use crate::settle::settle;
 use crate::sums::is_outside;
 use rows::fields::parent;
 use rows::fields::set_state;
-use rows::sets::join_sets;
+use rows::join::join_sets;
 use rules::Answer;
 use rules::Found;
 use rules::cause::SUM;

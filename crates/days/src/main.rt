@@ -33,6 +33,7 @@ fn main() {
     print_day(b"siblings-that-only-write.day");
     print_day(b"all-opening-cards.day");
     print_day(b"aborted-trees.day");
+    print_day(b"own-cards.day");
     print_day(b"charges.day");
     print_day(b"depot-totals.day");
     print_day(b"sums-at-the-ends.day");

@@ -1,57 +1,76 @@
 -- The sets and the pending sums of two actions joined in place: field by field, each from what the present table holds. What
 -- is read for a field is as it was at entry, since the fields before it are others. Assumes nothing.
-use Prim.Native.Nat.{ℕ, _≤_, _<_}
+use Prim.Native.Nat.{ℕ, _<_}
 use native.Mathlib.Omega.{arith}
-use mathlib.Core.Path.{_≡_, refl, ap, ap₂, _∙_}
+use mathlib.Core.Path.{_≡_, refl, ap, _∙_}
 use mathlib.Core.Logic.{_≢_}
 use mathlib.Core.List.{List}
 use Rattle.rules.specs.Card.{accountCount, accounts, firstCharge, chargeCount, IsCharge, chargeAccounts}
 use Rattle.rules.specs.Range.{upFrom, fold}
-use Rattle.rules.specs.Table.{width, word, withWord, withFields, readField, writeField, writeEntry, pendingField, withPending, withSets}
-use Rattle.rules.specs.Step.{joinedRead, joinedPending, joinTable}
-use Rattle.rows.specs.Join.{joinedWrite, joinField, joinFields, SumFits, SumsFit}
+use Rattle.rules.specs.Table.{width, word, withWord, withFields, readField, withRead, writeField, withWrite, pendingField, withPending, withSets}
+use Rattle.rules.specs.Step.{joinedRead, joinedWrite, joinedPending, joinTable}
+use Rattle.rows.specs.Join.{SumFits, SumsFit}
 use Rattle.rules.proofs.Laws.Ranges.{Within, fold-agree}
 use Rattle.rules.proofs.Laws.Words.{word-other-row, word-other-field}
 use Rattle.rules.proofs.Laws.Fields.{withFields-off-field, withFields-other-row, withFields-other-field, withFields-agree}
 
-module _ (w : List ℕ) (n p : ℕ) (apart : n ≢ p) where
-  -- row n is the same in both tables, and field f of row p
-  abbrev Same : List ℕ → ℕ → Type 0
-  Same now f = ((g : ℕ) → g < width → word now n g ≡ word w n g) × (word now p f ≡ word w p f)
+-- ---- one set, or the sums
 
-  -- an entry of p's that is made from row n and from the entry that it replaces
+module _ (w : List ℕ) (n p : ℕ) (apart : n ≢ p) where
+  -- the present table is as it was at entry in row n and, in row p, outside the fields of the accounts before k
+  abbrev SameFrom : (ℕ → ℕ) → ℕ → List ℕ → Type 0
+  SameFrom field k now =
+      ((g : ℕ) → g < width → word now n g ≡ word w n g)
+      × ((g : ℕ) → ((j : ℕ) → j < k → g ≢ field j) → word now p g ≡ word w p g)
+
+  -- an entry of p's that is made from such fields alone may be made in place
   made-in-place :
-      (entry : List ℕ → ℕ → ℕ) (field : ℕ → ℕ) (a c : ℕ) →
-      ((k : ℕ) → Within a c k → field k < width) → ((k j : ℕ) → Within a c j → k < j → field j ≢ field k) →
-      ((now : List ℕ) (k : ℕ) → Within a c k → Same now (field k) → entry w k ≡ entry now k) →
+      (entry : List ℕ → ℕ → ℕ) (field : ℕ → ℕ) (a c : ℕ) → ((k : ℕ) → Within a c k → field k < width) →
+      ((now : List ℕ) (k : ℕ) → Within a c k → SameFrom field k now → entry w k ≡ entry now k) →
       withFields w p field (upFrom a c) (entry w) ≡ fold (λ k now. withWord now p (field k) (entry now k)) (upFrom a c) w
   unfolding withFields
-  made-in-place entry field a c inside own made =
-      fold-agree (λ k now. (j : ℕ) → k ≤ j → Within a c j → Same now (field j)) _ _ a c
-      (λ k h now same. rw (made now k h (same k (omega arith) h)))
-      (λ k h now same j kj hj.
-      let e = same j (omega arith) hj in (
-        λ g hg. word-other-row now p n (field k) g _ (inside k h) hg apart ∙ e .0 g hg,
-        word-other-field now p (field k) (field j) _ (own k j hj (omega arith)) ∙ e .1,
+  made-in-place entry field a c inside made =
+      fold-agree (SameFrom field) _ _ a c
+      (λ k h now same. rw (made now k h same))
+      (λ k h now same. (
+        λ g hg. word-other-row now p n (field k) g _ (inside k h) hg apart ∙ same .0 g hg,
+        λ g later. word-other-field now p (field k) g _ (later k (omega arith)) ∙ same .1 g (λ j jk. later j (omega arith)),
       ))
-      w (λ j kj hj. (λ g hg. refl, refl))
+      w (λ g hg. refl, λ g later. refl)
 
-  pub joined-in-place :
-      (join : ℕ → ℕ → ℕ) (field : ℕ → ℕ) (a c : ℕ) →
-      ((k : ℕ) → Within a c k → field k < width) → ((k j : ℕ) → Within a c j → k < j → field j ≢ field k) →
-      joinFields w n p join field (upFrom a c) ≡ fold (λ k now. joinField now n p join (field k)) (upFrom a c) w
-  joined-in-place join field a c inside own =
-      made-in-place (λ now k. join (word now n (field k)) (word now p (field k))) field a c inside own
-      (λ now k h same. rw (same .0 (field k) (inside k h), same .1))
+  pub reads-in-place :
+      withFields w p readField accounts (joinedRead w n p)
+      ≡ fold (λ k now. withRead now p k (joinedRead now n p k)) accounts w
+  unfolding accounts
+  reads-in-place =
+      made-in-place (λ now. joinedRead now n p) readField 0 accountCount (λ k h. omega arith)
+      (λ now k h same.
+      rw (
+        same .0 (readField k) (omega arith),
+        same .1 (readField k) (λ j jk z. omega arith),
+        same .1 (writeField k) (λ j jk z. omega arith),
+      ))
+
+  pub writes-in-place :
+      withFields w p writeField accounts (joinedWrite w n p)
+      ≡ fold (λ k now. withWrite now p k (joinedWrite now n p k)) accounts w
+  unfolding accounts
+  writes-in-place =
+      made-in-place (λ now. joinedWrite now n p) writeField 0 accountCount (λ k h. omega arith)
+      (λ now k h same. rw (same .0 (writeField k) (omega arith), same .1 (writeField k) (λ j jk z. omega arith)))
 
   pub pendings-in-place :
       withFields w p pendingField chargeAccounts (joinedPending w n p)
       ≡ fold (λ k now. withPending now p k (joinedPending now n p k)) chargeAccounts w
   unfolding chargeAccounts
   pendings-in-place =
-      made-in-place (λ now. joinedPending now n p) pendingField firstCharge chargeCount
-      (λ k h. omega arith) (λ k j h kj z. omega arith)
-      (λ now k h same. rw (same .0 (writeField k) (omega arith), same .0 (pendingField k) (omega arith), same .1))
+      made-in-place (λ now. joinedPending now n p) pendingField firstCharge chargeCount (λ k h. omega arith)
+      (λ now k h same.
+      rw (
+        same .0 (writeField k) (omega arith),
+        same .0 (pendingField k) (omega arith),
+        same .1 (pendingField k) (λ j jk z. omega arith),
+      ))
 
   -- a sum that is still to be made fits as it did before
   pub fits-later :
@@ -68,10 +87,10 @@ module _ (w : List ℕ) (n p : ℕ) (apart : n ≢ p) where
 
 module _ (w : List ℕ) (n p : ℕ) where
   abbrev readsJoined : List ℕ
-  readsJoined = joinFields w n p joinedRead readField accounts
+  readsJoined = withFields w p readField accounts (joinedRead w n p)
 
   abbrev bothJoined : List ℕ
-  bothJoined = joinFields readsJoined n p joinedWrite writeField accounts
+  bothJoined = withFields readsJoined p writeField accounts (joinedWrite readsJoined n p)
 
   -- the write entries are as they were
   writes-kept : (m k : ℕ) → Within 0 accountCount k → word readsJoined m (writeField k) ≡ word w m (writeField k)
@@ -92,10 +111,9 @@ module _ (w : List ℕ) (n p : ℕ) where
       withFields-other-field _ p writeField 0 accountCount _ (pendingField k) (λ x r z. omega arith)
       ∙ withFields-other-field w p readField 0 accountCount _ (pendingField k) (λ x r z. omega arith)
 
-  both-joined :
-      bothJoined ≡ withFields readsJoined p writeField accounts (λ k. joinedWrite (writeEntry w n k) (writeEntry w p k))
+  both-joined : bothJoined ≡ withFields readsJoined p writeField accounts (joinedWrite w n p)
   unfolding accounts
-  both-joined = withFields-agree _ p writeField 0 accountCount _ _ (λ k h. ap₂ joinedWrite (writes-kept n k h) (writes-kept p k h))
+  both-joined = withFields-agree _ p writeField 0 accountCount _ _ (λ k h. rw (writes-kept n k h, writes-kept p k h))
 
   module _ (apart : n ≢ p) where
     pending-kept : (k : ℕ) → IsCharge k → joinedPending bothJoined n p k ≡ joinedPending w n p k

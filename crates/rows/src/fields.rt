@@ -1,10 +1,11 @@
 // The fields of the head and of an action, by name.
 ghost use mathlib.Core.Path.{_≡_};
 ghost use Rattle.rules.specs.Card.{IsAccount, IsCharge};
-ghost use Rattle.rules.specs.Table.{started, withStarted, counter, withCounter, parentOf, withParent, stateOf, withState, endTime, withEndTime, readEntry, withRead, hasWritten, writeEntry, withWrite, pendingWord, withPending, isLive, isCommitted};
+ghost use Rattle.rules.specs.Table.{started, withStarted, counter, withCounter, parentOf, withParent, stateOf, withState, endTime, withEndTime, readEntry, withRead, hasWritten, hasCard, writeEntry, withWrite, pendingWord, withPending, isLive, isCommitted};
 ghost use Rattle.rows.specs.Row.{HasRow};
 use crate::words::get;
 use crate::words::put;
+use rules::store::FIRST_CHARGE;
 use rules::table::COMMITTED;
 use rules::table::COUNTER_FIELD;
 use rules::table::END_FIELD;
@@ -141,6 +142,18 @@ pub fn has_written(table: &[u64], n: u64, k: u64) -> bool
     ensures { λ r. ⌜ r ≡ hasWritten (now (table .entry)) n k ⌝ }
 {
     write_entry(table, n, k) != NO_ENTRY
+}
+
+// It has a card of its own for the account; it never has one for a charge account.
+pub fn has_card(table: &[u64], n: u64, k: u64) -> bool
+    requires { ⌜ HasRow (now table) n ⌝ }
+    requires { ⌜ IsAccount k ⌝ }
+    ensures { λ r. ⌜ r ≡ hasCard (now (table .entry)) n k ⌝ }
+{
+    if k >= FIRST_CHARGE {
+        return false;
+    }
+    has_written(table, n, k)
 }
 
 // The word of its pending sum.

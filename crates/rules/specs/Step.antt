@@ -1,6 +1,6 @@
 -- RULES 2 and 4: what each event answers and leaves; an event of any kind is `step`. Assumes nothing.
 use Prim.Native.Nat.{ℕ, _+_, min}
-use mathlib.Core.Bool.{Bool, cond, _&&_}
+use mathlib.Core.Bool.{Bool, cond, not, _&&_, _||_}
 use mathlib.Core.List.{List}
 use lib.Dec.{eqb}
 use lib.IntN.{ℤ, _+ℤ_}
@@ -40,8 +40,12 @@ start s p = record { answer = Started (started (s .table) + 1); after = withTabl
 
 -- ---- RULES 2.3: read
 
+-- n's read of account k leaves its read set as it is: k is there, or n reads its own card, which is nobody else's
+abbrev pub leavesReadSet : List ℕ → ℕ → ℕ → Bool
+leavesReadSet w n k = hasRead w n k || hasCard w n k
+
 unfoldable pub readTable : List ℕ → ℕ → ℕ → List ℕ
-readTable w n k = cond (hasRead w n k) w (withRead w n k (counter w + 1))
+readTable w n k = cond (leavesReadSet w n k) w (withRead w n k (counter w + 1))
 
 -- a charge account's answer has the sum too
 unfoldable pub readAnswer : List ℕ → List ℕ → ℕ → ℕ → Answer
@@ -82,21 +86,29 @@ commitTime w n = cond (hasWrites w n) (counter w + 1) 0
 unfoldable pub commitCounter : List ℕ → ℕ → ℕ
 commitCounter w n = cond (hasWrites w n) (counter w + 1) (counter w)
 
--- of two read entries, a child's and its parent's, the parent's after the commit
-abbrev pub joinedRead : ℕ → ℕ → ℕ
-joinedRead child parent = cond (eqb child 0) parent (cond (eqb parent 0) child (min child parent))
+-- n's read of account k is passed to its parent p, but where p has a card for k already, before it gets n's
+abbrev pub passesRead : List ℕ → ℕ → ℕ → ℕ → Bool
+passesRead w n p k = hasRead w n k && not (hasCard w p k)
 
--- the word of p's pending sum for charge account k after the commit of its child n; without a write of n's it stays
+-- of a child's read entry and its parent's the one of the smaller time; the parent may have none
+abbrev pub earlierRead : ℕ → ℕ → ℕ
+earlierRead child parent = cond (eqb parent 0) child (min child parent)
+
+-- p's read entry for account k after the commit of its child n
+abbrev pub joinedRead : List ℕ → ℕ → ℕ → ℕ → ℕ
+joinedRead w n p k = cond (passesRead w n p k) (earlierRead (readEntry w n k) (readEntry w p k)) (readEntry w p k)
+
+-- p's write entry for account k after it; without a write of n's it stays
+abbrev pub joinedWrite : List ℕ → ℕ → ℕ → ℕ → ℕ
+joinedWrite w n p k = cond (hasWritten w n k) entered (writeEntry w p k)
+
+-- the word of p's pending sum for charge account k after it; without a write of n's it stays
 abbrev pub joinedPending : List ℕ → ℕ → ℕ → ℕ → ℕ
 joinedPending w n p k = cond (hasWritten w n k) (amountWord (pendingSum w p k +ℤ pendingSum w n k)) (pendingWord w p k)
 
 -- p's sets and pending sums with those of its child n
 unfoldable pub joinTable : List ℕ → ℕ → ℕ → List ℕ
-joinTable w n p =
-    withSets w p
-    (λ k. joinedRead (readEntry w n k) (readEntry w p k))
-    (λ k. cond (hasWritten w n k) entered (writeEntry w p k))
-    (joinedPending w n p)
+joinTable w n p = withSets w p (joinedRead w n p) (joinedWrite w n p) (joinedPending w n p)
 
 -- state, end time and counter after n's commit passes
 abbrev pub endTable : List ℕ → ℕ → List ℕ

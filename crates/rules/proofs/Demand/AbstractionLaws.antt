@@ -5,18 +5,18 @@ use native.Mathlib.Omega.{arith}
 use native.Mathlib.Decide.{ℕ-discrete, decLt}
 use mathlib.Core.Path.{_≡_, refl, sym, ap, _∙_}
 use mathlib.Core.Logic.{_⊎_, inl, inr, ⊎-elim, _≢_}
-use mathlib.Core.Bool.{true, false, cond, _&&_}
+use mathlib.Core.Bool.{true, false, cond, not, _&&_}
 use mathlib.Core.List.{List}
 use lib.Dec.{leb, ltb}
 use lib.IntN.{ℤ, pos, _+ℤ_, +ℤ-idl}
-use borrow.Author.Tests.{ltb-true, leb-true, lt-ltb, le-ltb, le-leb}
+use borrow.Author.Tests.{ltb-true, leb-true, leb-false, not-true, lt-ltb, le-ltb, le-leb}
 use Rattle.rules.specs.Card.{accountCount, firstCharge, isCharge, IsCharge, basePlace, shadowPlace, cardAt}
 use Rattle.rules.specs.Amount.{amountOf}
-use Rattle.rules.specs.Table.{newTable, mostActions, word, started, parentOf, hasRead, hasWritten, pendingSum, isLive}
+use Rattle.rules.specs.Table.{newTable, mostActions, word, started, parentOf, hasRead, hasWritten, hasCard, pendingSum, isLive}
 use Rattle.rules.specs.Sound.{IsStarted}
 use Rattle.rules.specs.Ledger.{Ledger}
 use Rattle.rules.specs.Serial.Effect.{nothing, puts, adds, lay}
-use Rattle.rules.proofs.Laws.Tests.{test, and-left, and-right, and-both, cond-holds}
+use Rattle.rules.proofs.Laws.Tests.{test, and-left, and-right, and-both, and-holds, cond-holds}
 use Rattle.rules.proofs.Laws.Amounts.{amount-zero}
 use Rattle.rules.proofs.Laws.Walking.{walk-store, walk-step, Climbs, parent-known, depth, depth-step, sound-climbs}
 use Rattle.rules.proofs.Serial.Values.{over, hides}
@@ -100,6 +100,13 @@ module _ (s : Ledger) (X k : ℕ) where
   pub effect-no-account : accountCount ≤ k → effectOf s X k ≡ nothing
   unfolding effectOf
   effect-no-account beyond = rw (le-ltb k accountCount beyond)
+
+  -- an own card hides what lies above it
+  pub card-hides : k < accountCount → hasCard (s .table) X k ≡ true → hides (effectOf s X k) ≡ true
+  unfolding hides
+  card-hides account has =
+      let (below, written) = and-holds (not (isCharge k)) (hasWritten (s .table) X k) .0 has in
+      rw (effect-card (leb-false firstCharge k (not-true _ below)) written) refl
 
   -- an effect on a charge account doesn't hide, whatever the ledger
   effect-seen-through : isCharge k ≡ true → hides (effectOf s X k) ≡ false

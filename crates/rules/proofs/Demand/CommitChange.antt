@@ -1,23 +1,24 @@
--- A commit as demand 3's proof sees it: the effects of the one that commits are laid on its parent, which has its reads then.
--- Assumes nothing.
+-- A commit as demand 3's proof sees it: the effects of the one that commits are laid on its parent, which has its reads then,
+-- but where the parent's own card hides what they saw. Assumes nothing.
 use Prim.Native.Nat.{ℕ}
 use native.Mathlib.Omega.{arith}
 use mathlib.Core.Path.{_≡_, _∙_}
-use mathlib.Core.Logic.{inl}
+use mathlib.Core.Logic.{inl, inr, ⊎-elim}
 use mathlib.Core.Bool.{false}
 use mathlib.Core.List.{List}
 use Rattle.rules.specs.declared.Found.the-variants.{Nothing}
-use Rattle.rules.specs.Table.{parentOf}
+use Rattle.rules.specs.Table.{parentOf, hasCard}
 use Rattle.rules.specs.Ledger.{Ledger}
 use Rattle.rules.specs.Cause.{isCommitOutside}
 use Rattle.rules.specs.Step.{commitTable, committedUnder}
+use Rattle.rules.proofs.Laws.Tests.{test}
 use Rattle.rules.proofs.Sound.TableChanges.{change-keeps-sound}
 use Rattle.rules.proofs.Laws.Permitted.{Committable}
 use Rattle.rules.proofs.Serial.Change.{Change}
 use Rattle.rules.proofs.Serial.Events.{Commit}
 use Rattle.rules.proofs.Demand.Abstraction.{effectOf, abstraction}
 use Rattle.rules.proofs.Demand.Proper.{Proper}
-use Rattle.rules.proofs.Demand.AbstractionLaws.{alive-started, live-alive, read-account, account-read, abstract-tree}
+use Rattle.rules.proofs.Demand.AbstractionLaws.{alive-started, live-alive, read-account, account-read, card-hides, abstract-tree}
 use Rattle.rules.proofs.Demand.Views.{was-alive, same-parent}
 use Rattle.rules.proofs.Demand.CommitTable.{entry-has-read, table-change, still-alive-other, read-joined, read-kept}
 use Rattle.rules.proofs.Demand.CommitCards.{commit-base-length, commit-shadow-length, commit-base-kept, commit-effect-kept}
@@ -68,6 +69,9 @@ module _
         committer-live = live-alive (s .table) n (judged .own) (judged .alive);
         committer-under = under;
         reads-noted = λ k l′ has.
-            inl (account-read table′ p k (read-account (s .table) n k has)
-            (entry-has-read table′ p k (read-joined proper judged under k l′ has .0)));
+            let account = read-account (s .table) n k has in
+            ⊎-elim
+            (λ card. inr (card-hides s p k account card))
+            (λ bare. inl (account-read table′ p k account (entry-has-read table′ p k (read-joined proper judged under k l′ has bare .0))))
+            (test (hasCard (s .table) p k));
       }

@@ -1,5 +1,5 @@
--- What a commit does to stale reads: those there were stay, those of the one that commits pass to its parent, and what it
--- changes makes every earlier read of it stale. Assumes nothing.
+-- What a commit does to stale reads: those there were stay, those of the one that commits pass to a parent that doesn't hide
+-- them, and what it changes makes every earlier read of it stale. Assumes nothing.
 use Prim.Native.Nat.{ℕ, _+_, _≤_, _<_}
 use native.Mathlib.Omega.{arith}
 use native.Mathlib.Nat.{le-of-eq}
@@ -9,12 +9,12 @@ use mathlib.Core.Bool.{true}
 use mathlib.Core.List.{List}
 use borrow.Author.Tests.{eq-eqb}
 use Rattle.rules.specs.Card.{accountCount, accounts}
-use Rattle.rules.specs.Table.{width, word, counter, parentOf, endTime, readFields, readEntry, writeField, hasWritten, hasWrites, isCommitted, isRecordOf}
+use Rattle.rules.specs.Table.{width, word, counter, parentOf, endTime, readFields, readEntry, writeField, hasWritten, hasWrites, hasCard, isCommitted, isRecordOf}
 use Rattle.rules.specs.Sound.{IsStarted}
 use Rattle.rules.specs.Ledger.{Ledger}
 use Rattle.rules.specs.Step.{commitTime, commitTable, committedUnder}
 use Rattle.rules.specs.Serial.Effect.{nothing}
-use Rattle.rules.proofs.Laws.Tests.{and-both}
+use Rattle.rules.proofs.Laws.Tests.{and-both, not-both, false-of-not-true}
 use Rattle.rules.proofs.Laws.Ranges.{any-at}
 use Rattle.rules.proofs.Laws.Sets.{account-within}
 use Rattle.rules.proofs.Sound.TableChanges.{writes-agree, live-uncommitted}
@@ -25,7 +25,7 @@ use Rattle.rules.proofs.Serial.Change.{Stays}
 use Rattle.rules.proofs.Serial.Stale.{AtCommit}
 use Rattle.rules.proofs.Demand.Abstraction.{effectOf, abstraction, Stale}
 use Rattle.rules.proofs.Demand.Proper.{Proper}
-use Rattle.rules.proofs.Demand.AbstractionLaws.{alive-started, alive-live, read-account, read-entered, effect-unwritten, effect-no-account}
+use Rattle.rules.proofs.Demand.AbstractionLaws.{alive-started, alive-live, read-account, read-entered, effect-unwritten, effect-no-account, card-hides}
 use Rattle.rules.proofs.Demand.Views.{RowKept, RecordsKept, stale-stays}
 use Rattle.rules.proofs.Demand.CommitTable.{NoLater, table-change, number-few, parent-other, now-committed, read-joined, read-kept}
 use Rattle.rules.proofs.Demand.CommitCards.{by-write-set}
@@ -118,5 +118,7 @@ module _ {s : Ledger} (proper : Proper s) {n p : ℕ} (judged : Committable (s .
             stale-kept (read-account (s .table) X k has) (read-kept proper judged under k X (x .before) (x .after) has);
         now = no-effect-or-stale;
         join = λ Q k l′ has shown seen.
-            stale-kept (read-account (s .table) n k has) (read-joined proper judged under k l′ has);
+            let account = read-account (s .table) n k has in
+            let bare = false-of-not-true (hasCard (s .table) p k) (λ card. not-both (card-hides s p k account card) shown) in
+            stale-kept account (read-joined proper judged under k l′ has bare);
       }

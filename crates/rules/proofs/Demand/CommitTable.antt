@@ -3,17 +3,17 @@ use Prim.Native.Nat.{ℕ, _≤_, _<_}
 use native.Mathlib.Omega.{arith}
 use native.Mathlib.Decide.{ℕ-discrete}
 use native.Mathlib.Nat.{le-refl}
-use mathlib.Core.Path.{_≡_}
+use mathlib.Core.Path.{_≡_, ap}
 use mathlib.Core.Logic.{inl, _≢_}
-use mathlib.Core.Bool.{true}
+use mathlib.Core.Bool.{true, false, not}
 use mathlib.Core.List.{List}
 use lib.Dec.{eqb}
 use borrow.Author.Tests.{eqb-true, eqb-false, eq-eqb, not-true}
 use Rattle.rules.specs.Card.{accountCount}
-use Rattle.rules.specs.Table.{mostActions, parentOf, readField, readEntry, hasRead, isCommitted}
+use Rattle.rules.specs.Table.{mostActions, parentOf, readField, readEntry, hasRead, hasCard, isCommitted}
 use Rattle.rules.specs.Ledger.{Ledger}
-use Rattle.rules.specs.Step.{joinedRead, commitTable}
-use Rattle.rules.proofs.Laws.Tests.{not-holds, nonzero, cond-holds}
+use Rattle.rules.specs.Step.{passesRead, earlierRead, joinedRead, commitTable}
+use Rattle.rules.proofs.Laws.Tests.{and-left, and-both, not-both, not-holds, nonzero, cond-holds}
 use Rattle.rules.proofs.Laws.Permitted.{Committable, not-own-parent}
 use Rattle.rules.proofs.Laws.Walking.{parent-known}
 use Rattle.rules.proofs.Sound.TableChanges.{TableChange, live-uncommitted}
@@ -36,21 +36,15 @@ entry-has-read w X k one = not-holds _ .1 (nonzero (readEntry w X k) .1 one)
 abbrev pub NoLater : ℕ → ℕ → Type 0
 NoLater e′ e = (1 ≤ e′) × (e′ ≤ e)
 
--- whoever of the two has read an account, the joined read is no later
-module _ (child parent : ℕ) where
-  joined-child : 1 ≤ child → NoLater (joinedRead child parent) child
-  joined-child one =
-      cond-holds (λ e. NoLater e child) (eqb child 0)
-      (λ z. absurd (omega (arith, eqb-true child 0 z)))
-      (λ _. cond-holds (λ e. NoLater e child) (eqb parent 0) (λ _. omega arith) (λ ne. omega (arith, eqb-false parent 0 ne)))
+-- the earlier of a child's read and its parent's is no later than either
+module _ (child parent : ℕ) (one : 1 ≤ child) where
+  earlier-child : NoLater (earlierRead child parent) child
+  earlier-child =
+      cond-holds (λ e. NoLater e child) (eqb parent 0) (λ _. omega arith) (λ ne. omega (arith, eqb-false parent 0 ne))
 
-  joined-parent : 1 ≤ parent → NoLater (joinedRead child parent) parent
-  joined-parent one =
-      cond-holds (λ e. NoLater e parent) (eqb child 0)
-      (λ _. omega arith)
-      (λ ne. cond-holds (λ e. NoLater e parent) (eqb parent 0)
-      (λ z. absurd (omega (arith, eqb-true parent 0 z)))
-      (λ _. omega (arith, eqb-false child 0 ne)))
+  earlier-parent : 1 ≤ parent → NoLater (earlierRead child parent) parent
+  earlier-parent has =
+      cond-holds (λ e. NoLater e parent) (eqb parent 0) (λ z. absurd (omega (arith, eqb-true parent 0 z))) (λ _. omega arith)
 
 -- ---- action n commits under p
 
@@ -74,22 +68,33 @@ module _ {s : Ledger} (proper : Proper s) {n p : ℕ} (judged : Committable (s .
   still-alive-other X l e = live-uncommitted _ n (rw e at (alive-live _ X l)) now-committed
 
   module _ (k : ℕ) where
-    parent-entry :
-        1 ≤ p → k < accountCount →
-        readEntry (commitTable (s .table) n p) p k ≡ joinedRead (readEntry (s .table) n k) (readEntry (s .table) p k)
-    parent-entry action =
-        commit-read (s .table) n p (judged .own .0) (proper .sound .long) number-few
-        action parent-few k
+    parent-entry : 1 ≤ p → k < accountCount → readEntry (commitTable (s .table) n p) p k ≡ joinedRead (s .table) n p k
+    parent-entry action = commit-read (s .table) n p (judged .own .0) (proper .sound .long) number-few action parent-few k
 
-    -- a parent that is an action has the reads of the one that commits, at times no later
+    -- a parent that is an action, and had no card for the account, has the reads of the one that commits, at times no later
     pub read-joined :
-        isAlive (commitTable (s .table) n p) p ≡ true → hasReadAccount (s .table) n k ≡ true →
+        isAlive (commitTable (s .table) n p) p ≡ true → hasReadAccount (s .table) n k ≡ true → hasCard (s .table) p k ≡ false →
         NoLater (readEntry (commitTable (s .table) n p) p k) (readEntry (s .table) n k)
-    read-joined l′ has =
+    read-joined l′ has bare =
+        let entered = read-entered (s .table) n k has in
         rw (parent-entry (alive-started _ p l′ .0) (read-account (s .table) n k has))
-        (joined-child _ _ (read-has-entry (s .table) n k (read-entered (s .table) n k has)))
+        (cond-holds (λ e. NoLater e (readEntry (s .table) n k)) (passesRead (s .table) n p k)
+        (λ _. earlier-child (readEntry (s .table) n k) (readEntry (s .table) p k) (read-has-entry (s .table) n k entered))
+        (λ stays. absurd (not-both (and-both entered (ap not bare)) stays)))
 
-    -- whoever is still live has the reads that it had, at times no later
+    -- the parent has the reads that it had, at times no later
+    parent-kept :
+        1 ≤ p → k < accountCount → 1 ≤ readEntry (s .table) p k →
+        NoLater (readEntry (commitTable (s .table) n p) p k) (readEntry (s .table) p k)
+    parent-kept action account one =
+        rw (parent-entry action account)
+        (cond-holds (λ e. NoLater e (readEntry (s .table) p k)) (passesRead (s .table) n p k)
+        (λ passed.
+        let childs = read-has-entry (s .table) n k (and-left (hasRead (s .table) n k) _ passed) in
+        earlier-parent (readEntry (s .table) n k) (readEntry (s .table) p k) childs one)
+        (λ _. (one, le-refl (readEntry (s .table) p k))))
+
+    -- so has whoever is still live
     pub read-kept :
         (X : ℕ) → isAlive (s .table) X ≡ true → isAlive (commitTable (s .table) n p) X ≡ true →
         hasReadAccount (s .table) X k ≡ true → NoLater (readEntry (commitTable (s .table) n p) X k) (readEntry (s .table) X k)
@@ -101,11 +106,11 @@ module _ {s : Ledger} (proper : Proper s) {n p : ℕ} (judged : Committable (s .
         one : 1 ≤ readEntry (s .table) X k
         one = read-has-entry (s .table) X k (read-entered (s .table) X k has)
 
+        account : k < accountCount
+        account = read-account (s .table) X k has
+
         cases : Dec (X ≡ p) → NoLater (readEntry (commitTable (s .table) n p) X k) (readEntry (s .table) X k)
-        cases (yes e) =
-            rw (e, parent-entry (rw e at action) (read-account (s .table) X k has))
-            (joined-parent (readEntry (s .table) n k) (readEntry (s .table) p k) (rw e at one))
+        cases (yes e) = rw e (parent-kept (rw e at action) account (rw e at one))
         cases (no ne) =
-            let account = read-account (s .table) X k has in
-            rw (commit-keeps-row (s .table) n p (judged .own .0) X (readField k) (omega arith) action (still-alive-other X l′) (inl ne))
+            rw (commit-keeps-row (s .table) n p (judged .own .0) X (readField k) (omega (arith, account)) action (still-alive-other X l′) (inl ne))
             (one, le-refl (readEntry (s .table) X k))

@@ -1,28 +1,29 @@
--- A read as demand 3's proof sees it: the account is in the reader's read set, and nobody else has changed. Assumes nothing.
+-- A read as demand 3's proof sees it: the account is in the reader's read set, or the reader's own card hides all else, and
+-- nobody else has changed. Assumes nothing.
 use Prim.Native.Nat.{ℕ, _+_, _<_}
 use native.Mathlib.Nat.{le-of-eq}
 use native.Mathlib.Omega.{arith}
 use native.Mathlib.Decide.{ℕ-discrete}
 use mathlib.Core.Path.{_≡_, refl, sym, ap}
-use mathlib.Core.Logic.{inl}
-use mathlib.Core.Bool.{true, not}
+use mathlib.Core.Logic.{inl, inr, ⊎-elim}
+use mathlib.Core.Bool.{true, false, not}
 use mathlib.Core.List.{List}
 use lib.Dec.{eqb}
 use borrow.Author.Tests.{ne-eqb}
 use Rattle.rules.specs.Card.{accountCount, isCharge}
-use Rattle.rules.specs.Table.{counter, stateField, readField, readEntry, hasRead, writeField, pendingField}
-use Rattle.rules.specs.Ledger.{Ledger}
-use Rattle.rules.specs.Step.{readTable, readAnswer, read}
+use Rattle.rules.specs.Table.{counter, stateField, readField, readEntry, hasRead, writeField, hasCard, pendingField}
+use Rattle.rules.specs.Ledger.{Ledger, withTable}
+use Rattle.rules.specs.Step.{leavesReadSet, readTable, readAnswer, read}
 use Rattle.rules.specs.Serial.Told.{itRead, told}
-use Rattle.rules.proofs.Laws.Tests.{cond-holds}
+use Rattle.rules.proofs.Laws.Tests.{or-cases, test, not-both, cond-holds}
 use Rattle.rules.proofs.Laws.Permitted.{Touchable}
 use Rattle.rules.proofs.Sound.TableChanges.{TableChange, live-uncommitted}
 use Rattle.rules.proofs.Sound.Reading.{read-keeps-field, read-keeps-row, read-entry, read-change}
-use Rattle.rules.proofs.Serial.Events.{Read}
+use Rattle.rules.proofs.Serial.Events.{Noted, Read}
 use Rattle.rules.proofs.Serial.Stale.{Old}
 use Rattle.rules.proofs.Demand.Abstraction.{abstraction, Stale}
 use Rattle.rules.proofs.Demand.Proper.{Proper}
-use Rattle.rules.proofs.Demand.AbstractionLaws.{alive-started, live-alive, account-read}
+use Rattle.rules.proofs.Demand.AbstractionLaws.{alive-started, live-alive, account-read, card-hides}
 use Rattle.rules.proofs.Demand.Views.{RecordsKept, Keeps, keeps-still, keeps-old, was-alive, change-keeps-proper}
 
 -- its answer tells of a read, whatever the account's kind
@@ -68,13 +69,20 @@ module _ (s : Ledger) (proper : Proper s) (n k : ℕ) (permitted : Touchable (s 
         rows = λ m h done g inside. read-keeps-row before n k account m g inside (λ e. live-uncommitted before n alive (rw e at done));
       }
 
-  -- the account is in the read set then
-  entered : hasRead after n k ≡ true
-  entered =
+  -- where the reader has no card the account is in its read set then
+  entered : hasCard before n k ≡ false → hasRead after n k ≡ true
+  entered bare =
       rw (read-entry before n k account (proper .sound) own)
-      (cond-holds (λ entry. not (eqb entry 0) ≡ true) (hasRead before n k)
-      (λ has. has)
+      (cond-holds (λ entry. not (eqb entry 0) ≡ true) (leavesReadSet before n k)
+      (λ stays. ⊎-elim (λ has. has) (λ card. absurd (not-both card bare)) (or-cases (hasRead before n k) (hasCard before n k) stays))
       (λ _. ap not (ne-eqb (counter before + 1) 0 (λ z. omega arith))))
+
+  read-noted : Noted (abstraction s) (abstraction (withTable s after)) n k
+  read-noted =
+      ⊎-elim
+      (λ card. inr (card-hides s n k account card))
+      (λ bare. inl (account-read after n k account (entered bare)))
+      (test (hasCard before n k))
 
   pub read-reads : Read (abstraction s) (abstraction (read s n k .after)) n k
   unfolding read
@@ -85,7 +93,7 @@ module _ (s : Ledger) (proper : Proper s) (n k : ℕ) (permitted : Touchable (s 
         reader-live =
             live-alive after n (rw (change .sameStarted) own)
             (rw (read-keeps-field before n k account n stateField (omega arith) (λ z. omega arith)) alive);
-        noted = inl (account-read after n k account entered);
+        noted = read-noted;
       }
 
   pub read-old : Old (abstraction s) (abstraction (read s n k .after)) (Stale s) (Stale (read s n k .after))

@@ -115,15 +115,26 @@ module _ (w : List ℕ) (n p : ℕ) (one : 1 ≤ n) where
       unfolding commitTable
       joined = rw (ne-eqb p 0 (λ z. omega arith))
 
-      pub commit-read :
-          (k : ℕ) → k < accountCount → readEntry (commitTable w n p) p k ≡ joinedRead (readEntry w n k) (readEntry w p k)
+      -- the entries of both for the account are as they were, and so is whatever is made of them
+      joined-read-kept :
+          (k : ℕ) → k < accountCount →
+          (writeEntry ended n k ≡ writeEntry w n k) × (writeEntry ended p k ≡ writeEntry w p k)
+          × (joinedRead ended n p k ≡ joinedRead w n p k)
+      joined-read-kept k hk =
+          rw (
+            ended-keeps-field n (readField k) (omega arith) (λ z. omega arith) (λ z. omega arith),
+            ended-keeps-field p (readField k) (omega arith) (λ z. omega arith) (λ z. omega arith),
+            ended-keeps-field n (writeField k) (omega arith) (λ z. omega arith) (λ z. omega arith),
+            ended-keeps-field p (writeField k) (omega arith) (λ z. omega arith) (λ z. omega arith),
+          )
+          (refl, refl, refl)
+
+      pub commit-read : (k : ℕ) → k < accountCount → readEntry (commitTable w n p) p k ≡ joinedRead w n p k
       unfolding joinTable
       commit-read k hk =
           ap (λ t. readEntry t p k) joined
           ∙ withSets-read ended p _ _ _ ended-long low k hk
-          ∙ ap₂ joinedRead
-          (ended-keeps-field n (readField k) (omega arith) (λ z. omega arith) (λ z. omega arith))
-          (ended-keeps-field p (readField k) (omega arith) (λ z. omega arith) (λ z. omega arith))
+          ∙ joined-read-kept k hk .2
 
       pub commit-write :
           (k : ℕ) → k < accountCount → writeEntry (commitTable w n p) p k ≡ cond (hasWritten w n k) entered (writeEntry w p k)

@@ -7,14 +7,14 @@ use mathlib.Core.Path.{_≡_, refl, sym, ap, _∙_}
 use mathlib.Core.Logic.{_⊎_, inl, inr, ⊎-elim, _≢_}
 use mathlib.Core.Bool.{Bool, true, false, not, cond}
 use mathlib.Core.List.{List}
-use borrow.Author.Tests.{eqb-true, eqb-false, eq-eqb, ne-eqb, not-true}
+use borrow.Author.Tests.{eqb-true, eq-eqb, ne-eqb}
 use lib.Dec.{eqb}
 use Rattle.rules.specs.Range.{count}
 use Rattle.rules.specs.Card.{accountCount, IsCharge}
 use Rattle.rules.specs.Table.{hasEnd, width, mostActions, live, committed, aborted, word, startedField, started, counterField, counter, parentField, parentOf, stateField, stateOf, withState, endField, endTime, readField, readEntry, hasRead, readTime, writeField, writeEntry, entered, hasWritten, hasWrites, pendingField, pendingWord, isLive, isCommitted, actions}
 use Rattle.rules.specs.Sound.{hasState, IsStarted, Sound}
-use Rattle.rules.specs.Step.{commitTime, commitCounter, joinedRead, joinedPending, commitTable}
-use Rattle.rules.proofs.Laws.Tests.{and-left, and-right, and-both, test, not-both, false-of-not-true}
+use Rattle.rules.specs.Step.{commitTime, commitCounter, passesRead, joinedRead, joinedPending, commitTable}
+use Rattle.rules.proofs.Laws.Tests.{and-left, and-right, and-both, test, not-both, false-of-not-true, cond-holds}
 use Rattle.rules.proofs.Laws.Ranges.{count-agree, count-one-more}
 use Rattle.rules.proofs.Laws.Permitted.{Committable, no-live-child, not-own-parent}
 use Rattle.rules.proofs.Laws.Words.{withWord-length, word-same, word-other-row, word-off-field}
@@ -121,15 +121,12 @@ module _ (w : List ℕ) (s : Sound w) (n : ℕ) (j : Committable w n) where
 
 -- ---- a commit that passes
 
--- the smaller time stays, so a bound on both is one on the joined time
-joined-bound : (a b c : ℕ) → (a ≢ 0 → a - 1 ≤ c) → (b ≢ 0 → b - 1 ≤ c) → joinedRead a b - 1 ≤ c
-joined-bound a b c f g = go (ℕ-discrete a 0) (ℕ-discrete b 0)
-  where
-    go : Dec (a ≡ 0) → Dec (b ≡ 0) → joinedRead a b - 1 ≤ c
-    go (yes x) (yes y) = rw (x, y) (omega arith)
-    go (yes x) (no y) = rw x (g y)
-    go (no x) (yes y) = rw (ne-eqb a 0 x, y) (f x)
-    go (no x) (no y) = rw (ne-eqb a 0 x, ne-eqb b 0 y) (omega (arith, f x, g y))
+-- the parent's entry after a join is one of the two that were there, so a bound on both is one on it
+joined-bound : (w : List ℕ) (n p k c : ℕ) → readEntry w n k - 1 ≤ c → readEntry w p k - 1 ≤ c → joinedRead w n p k - 1 ≤ c
+joined-bound w n p k c child parent =
+    cond-holds (λ e. e - 1 ≤ c) (passesRead w n p k)
+    (λ _. cond-holds (λ e. e - 1 ≤ c) (eqb (readEntry w p k) 0) (λ _. child) (λ _. omega (arith, child, parent)))
+    (λ _. parent)
 
 module _ (w : List ℕ) (s : Sound w) (n : ℕ) (j : Committable w n) where
   abbrev parent : ℕ
@@ -204,9 +201,12 @@ module _ (w : List ℕ) (s : Sound w) (n : ℕ) (j : Committable w n) where
       go (yes z) = rw z (own-end (rw z at e))
       go (no ne) = other-end m h ne e
 
-  old-time : (m k : ℕ) → IsStarted w m → isLive w m ≡ true → k < accountCount → readEntry w m k ≢ 0 → readEntry w m k - 1 ≤ counter passed
-  old-time m k h l hk ne =
-      rw pass-counter (omega (arith, s .reads m k h l hk (ap not (ne-eqb _ _ ne)), counter-step .0))
+  old-time : (m k : ℕ) → IsStarted w m → isLive w m ≡ true → k < accountCount → readEntry w m k - 1 ≤ counter passed
+  old-time m k h l hk = go (ℕ-discrete (readEntry w m k) 0)
+    where
+      go : Dec (readEntry w m k ≡ 0) → readEntry w m k - 1 ≤ counter passed
+      go (yes none) = omega (arith, none)
+      go (no ne) = rw pass-counter (omega (arith, s .reads m k h l hk (ap not (ne-eqb _ _ ne)), counter-step .0))
 
   pass-reads :
       (m k : ℕ) → IsStarted w m → isLive passed m ≡ true → k < accountCount → hasRead passed m k ≡ true → readTime passed m k ≤ counter passed
@@ -221,14 +221,15 @@ module _ (w : List ℕ) (s : Sound w) (n : ℕ) (j : Committable w n) where
       go : Dec (m ≡ parent) → readTime passed m k ≤ counter passed
       go (yes z) =
           let pos : 1 ≤ parent = rw z at (h .0) in
-          rw (z, commit-read w n parent (j .own .0) (s .long) n-few pos (omega (arith, parent-started, s .few)) k hk)
-          (joined-bound (readEntry w n k) (readEntry w parent k) (counter passed)
+          let few : parent ≤ mostActions = omega (arith, parent-started, s .few) in
+          rw (z, commit-read w n parent (j .own .0) (s .long) n-few pos few k hk)
+          (joined-bound w n parent k (counter passed)
           (old-time n k (j .own) (j .alive) hk)
           (old-time parent k (pos, parent-started) (parent-live pos) hk))
       go (no ne) =
           let entry : readEntry passed m k ≡ readEntry w m k =
           commit-keeps-row w n parent (j .own .0) m (readField k) (omega arith) (h .0) other (inl ne) in
-          rw entry (old-time m k h was hk (eqb-false _ _ (not-true _ (rw entry at r))))
+          rw entry (old-time m k h was hk)
 
   -- an account that n has written enters the parent's write set; any other keeps its entry and its sum there
   parent-sums : 1 ≤ parent → (k : ℕ) → IsCharge k → SumStays w passed parent k

@@ -12,7 +12,7 @@ use lib.ListN.{length}
 use Rattle.rules.specs.Card.{accountCount}
 use Rattle.rules.specs.Table.{hasEnd, width, committed, word, startedField, counterField, counter, parentField, stateField, stateOf, endField, readField, readEntry, withRead, hasRead, readTime, writeField, pendingField, isLive}
 use Rattle.rules.specs.Sound.{IsStarted, Sound}
-use Rattle.rules.specs.Step.{readTable}
+use Rattle.rules.specs.Step.{leavesReadSet, readTable}
 use Rattle.rules.proofs.Laws.Words.{withWord-length, word-same, word-other-row, word-off-field}
 use Rattle.rules.proofs.Sound.TableChanges.{TableChange, sum-stays, quiet-change, writes-agree}
 use Rattle.rules.proofs.Laws.Tests.{cond-holds}
@@ -27,7 +27,7 @@ module _ (w : List ℕ) (n k : ℕ) (account : k < accountCount) where
   -- what holds before, and with the entry put in, holds after the read
   read-holds : (P : List ℕ → Type 0) → P w → P (withRead w n k (counter w + 1)) → P (readTable w n k)
   unfolding readTable
-  read-holds P old new = cond-holds P (hasRead w n k) (λ e. old) (λ e. new)
+  read-holds P old new = cond-holds P (leavesReadSet w n k) (λ e. old) (λ e. new)
 
   pub read-length : length (readTable w n k) ≡ length w
   read-length = read-holds (λ v. length v ≡ length w) refl (withWord-length w n _ _)
@@ -55,9 +55,9 @@ module _ (w : List ℕ) (n k : ℕ) (account : k < accountCount) where
 
   module _ (s : Sound w) where
     -- RULES 2.3
-    pub read-entry : IsStarted w n → readEntry (readTable w n k) n k ≡ cond (hasRead w n k) (readEntry w n k) (counter w + 1)
+    pub read-entry : IsStarted w n → readEntry (readTable w n k) n k ≡ cond (leavesReadSet w n k) (readEntry w n k) (counter w + 1)
     unfolding readTable
-    read-entry own = go (hasRead w n k)
+    read-entry own = go (leavesReadSet w n k)
       where
         go : (b : Bool) → readEntry (cond b w (withRead w n k (counter w + 1))) n k ≡ cond b (readEntry w n k) (counter w + 1)
         go true = refl
@@ -71,7 +71,7 @@ module _ (w : List ℕ) (n k : ℕ) (account : k < accountCount) where
         go (yes e) (no ne) = inl (read-keeps-field m (readField j) (omega arith) (λ z. ne (omega arith)))
         go (yes e) (yes f) =
             rw (e, f, read-entry (rw e at h))
-            (cond-holds (λ x. (x ≡ readEntry w n k) ⊎ (x ≡ counter w + 1)) (hasRead w n k) (λ q. inl refl) (λ q. inr refl))
+            (cond-holds (λ x. (x ≡ readEntry w n k) ⊎ (x ≡ counter w + 1)) (leavesReadSet w n k) (λ q. inl refl) (λ q. inr refl))
 
     reads-in-time :
         (m j : ℕ) → IsStarted w m → isLive (readTable w n k) m ≡ true → j < accountCount → hasRead (readTable w n k) m j ≡ true →

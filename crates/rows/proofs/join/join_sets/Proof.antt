@@ -2,14 +2,14 @@
 -- entry (`Joining`). Assumes nothing.
 use borrow.Author.Needs.{needs}
 use Rattle.rows.proofs.Joining.{fits-kept, joined-all}
-use Rattle.rows.proofs.sets.join_sets.Statement.{statement}
-use Rattle.rows.proofs.sets.join_sets.Tie as tie
+use Rattle.rows.proofs.join.join_sets.Statement.{statement}
+use Rattle.rows.proofs.join.join_sets.Tie as tie
 
-join-fields-requires : tie.Need-join-fields-requires
-join-fields-requires c κs = search needs
+join-reads-requires : tie.Need-join-reads-requires
+join-reads-requires c κs = search needs
 
-join-fields-requires-2 : tie.Need-join-fields-requires-2
-join-fields-requires-2 c κs = search needs
+join-writes-requires : tie.Need-join-writes-requires
+join-writes-requires c κs = search needs
 
 join-pending-requires : tie.Need-join-pending-requires
 join-pending-requires c κs =
@@ -21,7 +21,7 @@ join-pending-requires c κs =
         search needs,
         (
           start .pre .1 .1 .0,
-          rw (second .join-fields2 .ensures, first .join-fields .ensures)
+          rw (second .join-writes .ensures, first .join-reads .ensures)
               (fits-kept _ _ _ (start .pre .1 .1 .0) (start .pre .1 .1 .1)),
         ),
       ),
@@ -36,9 +36,9 @@ returns c =
     let second = third .before .before .before .before in
     let first = second .before .before .before .before in
     let start = first .before .before .before in
-    rw (third .join-pending .ensures, second .join-fields2 .ensures, first .join-fields .ensures)
+    rw (third .join-pending .ensures, second .join-writes .ensures, first .join-reads .ensures)
     (joined-all _ _ _ (start .pre .1 .1 .0))
 
 pub join-sets-spec : {M : Type 1} → statement M
 join-sets-spec =
-    tie.close (tie.spec join-fields-requires join-fields-requires-2 join-pending-requires same-length returns)
+    tie.close (tie.spec join-reads-requires join-writes-requires join-pending-requires same-length returns)

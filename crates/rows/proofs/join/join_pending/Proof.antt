@@ -13,8 +13,8 @@ use Rattle.rules.specs.Step.{joinedPending}
 use Rattle.rules.proofs.Laws.Ranges.{fold-left-next, fold-left-done}
 use Rattle.rows.specs.Join.{SumFits}
 use Rattle.rows.proofs.Joining.{pendings-in-place, fits-later}
-use Rattle.rows.proofs.sets.join_pending.Statement.{statement}
-use Rattle.rows.proofs.sets.join_pending.Tie as tie
+use Rattle.rows.proofs.join.join_pending.Statement.{statement}
+use Rattle.rows.proofs.join.join_pending.Tie as tie
 
 abbrev Inv-loop : tie.InvT-loop
 Inv-loop table₀ n p k₀ table k =

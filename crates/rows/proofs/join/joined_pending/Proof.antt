@@ -4,8 +4,8 @@ use native.Mathlib.Omega.{arith}
 use borrow.Author.Needs.{needs}
 use Rattle.rules.proofs.Laws.Negated.{failed, held}
 use Rattle.amounts.proofs.Sums.{room-for-second, word-of-two}
-use Rattle.rows.proofs.sets.joined_pending.Statement.{statement}
-use Rattle.rows.proofs.sets.joined_pending.Tie as tie
+use Rattle.rows.proofs.join.joined_pending.Statement.{statement}
+use Rattle.rows.proofs.join.joined_pending.Tie as tie
 
 pending-requires : tie.Need-pending-requires
 pending-requires c κs = search needs

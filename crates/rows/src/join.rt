@@ -1,0 +1,140 @@
+// The read set, the write set and the pending sums of a child joined to its parent's.
+ghost use mathlib.Core.Path.{_≡_};
+ghost use Rattle.rules.specs.Card.{accounts, IsAccount, IsCharge, chargeAccounts};
+ghost use Rattle.rules.specs.Table.{withFields, readField, writeField, pendingField};
+ghost use Rattle.rules.specs.Step.{passesRead, earlierRead, joinedRead, joinedWrite, joinedPending, joinTable};
+ghost use Rattle.rows.specs.Join.{SumFits, SumsFit};
+ghost use Rattle.rows.specs.Row.{HasRow, AreTwo};
+use crate::fields::has_card;
+use crate::fields::has_written;
+use crate::fields::pending;
+use crate::fields::read_entry;
+use crate::fields::set_pending;
+use crate::fields::set_read_entry;
+use crate::fields::set_write_entry;
+use crate::fields::write_entry;
+use amounts::sum::of_word;
+use amounts::sum::plus;
+use rules::store::ACCOUNTS;
+use rules::store::FIRST_CHARGE;
+use rules::table::ENTERED;
+use rules::table::NO_ENTRY;
+
+// n's read is passed to its parent p, which must still have its own write entry: where that is a card, the read stays behind.
+fn passes_read(table: &[u64], n: u64, p: u64, k: u64) -> bool
+    requires { ⌜ HasRow (now table) n ⌝ }
+    requires { ⌜ HasRow (now table) p ⌝ }
+    requires { ⌜ IsAccount k ⌝ }
+    ensures { λ r. ⌜ r ≡ passesRead (now (table .entry)) n p k ⌝ }
+{
+    if read_entry(table, n, k) == NO_ENTRY {
+        return false;
+    }
+    !has_card(table, p, k)
+}
+
+// The smaller time, where there are two.
+fn earlier_read(child: u64, parent: u64) -> u64
+    ensures { λ r. ⌜ r ≡ earlierRead child parent ⌝ }
+{
+    if parent == NO_ENTRY {
+        return child;
+    }
+    if child < parent { child } else { parent }
+}
+
+fn joined_read(table: &[u64], n: u64, p: u64, k: u64) -> u64
+    requires { ⌜ HasRow (now table) n ⌝ }
+    requires { ⌜ HasRow (now table) p ⌝ }
+    requires { ⌜ IsAccount k ⌝ }
+    ensures { λ r. ⌜ r ≡ joinedRead (now (table .entry)) n p k ⌝ }
+{
+    let own = read_entry(table, p, k);
+    if !passes_read(table, n, p, k) {
+        return own;
+    }
+    earlier_read(read_entry(table, n, k), own)
+}
+
+fn joined_write(table: &[u64], n: u64, p: u64, k: u64) -> u64
+    requires { ⌜ HasRow (now table) n ⌝ }
+    requires { ⌜ HasRow (now table) p ⌝ }
+    requires { ⌜ IsAccount k ⌝ }
+    ensures { λ r. ⌜ r ≡ joinedWrite (now (table .entry)) n p k ⌝ }
+{
+    if has_written(table, n, k) {
+        return ENTERED;
+    }
+    write_entry(table, p, k)
+}
+
+// The word of p's pending sum with that of its child n, where n has added.
+fn joined_pending(table: &[u64], n: u64, p: u64, k: u64) -> u64
+    requires { ⌜ HasRow (now table) n ⌝ }
+    requires { ⌜ HasRow (now table) p ⌝ }
+    requires { ⌜ IsCharge k ⌝ }
+    requires { ⌜ SumFits (now table) n p k ⌝ }
+    ensures { λ r. ⌜ r ≡ joinedPending (now (table .entry)) n p k ⌝ }
+{
+    let own = pending(table, p, k);
+    if !has_written(table, n, k) {
+        return own;
+    }
+    let sum = plus(of_word(own), pending(table, n, k));
+    sum.low
+}
+
+// n's reads passed to p.
+fn join_reads(table: &mut [u64], n: u64, p: u64)
+    requires { ⌜ HasRow (now table) n ⌝ }
+    requires { ⌜ HasRow (now table) p ⌝ }
+    requires { ⌜ AreTwo n p ⌝ }
+    ensures { λ r. ⌜ now (table .exit) ≡ withFields (now (table .entry)) p readField accounts (joinedRead (now (table .entry)) n p) ⌝ }
+{
+    for k in 0..ACCOUNTS {
+        let joined = joined_read(table, n, p, k);
+        set_read_entry(table, p, k, joined);
+    }
+}
+
+// n's write set joined to p's.
+fn join_writes(table: &mut [u64], n: u64, p: u64)
+    requires { ⌜ HasRow (now table) n ⌝ }
+    requires { ⌜ HasRow (now table) p ⌝ }
+    requires { ⌜ AreTwo n p ⌝ }
+    ensures { λ r. ⌜ now (table .exit) ≡ withFields (now (table .entry)) p writeField accounts (joinedWrite (now (table .entry)) n p) ⌝ }
+{
+    for k in 0..ACCOUNTS {
+        let joined = joined_write(table, n, p, k);
+        set_write_entry(table, p, k, joined);
+    }
+}
+
+// n's pending sums added to p's.
+fn join_pending(table: &mut [u64], n: u64, p: u64)
+    requires { ⌜ HasRow (now table) n ⌝ }
+    requires { ⌜ HasRow (now table) p ⌝ }
+    requires { ⌜ AreTwo n p ⌝ }
+    requires { ⌜ SumsFit (now table) n p ⌝ }
+    ensures { λ r. ⌜ now (table .exit)
+        ≡ withFields (now (table .entry)) p pendingField chargeAccounts (joinedPending (now (table .entry)) n p) ⌝ }
+{
+    for k in FIRST_CHARGE..ACCOUNTS {
+        let joined = joined_pending(table, n, p, k);
+        set_pending(table, p, k, joined);
+    }
+}
+
+// n's sets joined to those of its parent p, and n's pending sums added to p's. The reads come first: they go by the cards
+// that p has before it gets n's.
+pub fn join_sets(table: &mut [u64], n: u64, p: u64)
+    requires { ⌜ HasRow (now table) n ⌝ }
+    requires { ⌜ HasRow (now table) p ⌝ }
+    requires { ⌜ AreTwo n p ⌝ }
+    requires { ⌜ SumsFit (now table) n p ⌝ }
+    ensures { λ r. ⌜ now (table .exit) ≡ joinTable (now (table .entry)) n p ⌝ }
+{
+    join_reads(table, n, p);
+    join_writes(table, n, p);
+    join_pending(table, n, p);
+}
