@@ -15,6 +15,7 @@ pub struct Coverage {
     sums: BTreeMap<&'static str, u64>,
     sums_refused: BTreeMap<&'static str, u64>,
     charge_clashes: u64,
+    pub reads_behind: u64,
     unsound: BTreeMap<String, u64>,
     sound: u64,
     pub table_length: u64,
@@ -127,6 +128,7 @@ impl fmt::Display for Coverage {
         row(f, "sums read", &self.sums)?;
         row(f, "refused 15 by event", &self.sums_refused)?;
         writeln!(f, "failed over a charge account: {}", self.charge_clashes)?;
+        writeln!(f, "reads left behind at a parent's card: {}", self.reads_behind)?;
         writeln!(f, "lists: {}, lists in one call: {}", self.lists, self.list_calls)?;
         row(f, "lists in one call refused by number", &self.list_refusals)?;
         writeln!(f, "reads held to the serial run: {}, with a sum: {}", self.serial_reads, self.serial_sums)?;

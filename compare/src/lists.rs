@@ -4,9 +4,9 @@ use crate::cause;
 use crate::coverage::Coverage;
 use crate::dayfile::event_bytes;
 use crate::generate::{any_base, bytes, events, shape};
-use crate::header::{ANSWER_WORDS, CARD_BYTES, SHADOW_BYTES, TABLE_WORDS};
+use crate::header::{ACCOUNTS, ANSWER_WORDS, CARD_BYTES, EVENT_COMMIT, SHADOW_BYTES, TABLE_WORDS};
 use crate::library::{answer, encode, Lent};
-use crate::model::{amount_in, base_card, Answer, Event, Ledger, Shown, FIRST_CHARGE};
+use crate::model::{amount_in, base_card, Answer, Event, Ledger, Shown, Table, FIRST_CHARGE, STORE};
 use crate::random::Random;
 use crate::same::{same, same_bytes, same_lent, same_words, Compared};
 use crate::serial::{added_in_r, serial_run, Given};
@@ -48,6 +48,7 @@ fn list(opening: &Opening, events: &[Event], seen: &mut Coverage) -> Compared {
     let mut given: HashMap<usize, Given> = HashMap::new();
     for (i, e) in events.iter().enumerate() {
         let a = lent.event(e);
+        let behind = reads_behind(&ledger.table, e);
         same("answer", a, ledger.event(e))?;
         encode(&ledger.table, &mut expected);
         same_words(&lent.table, &expected)?;
@@ -59,6 +60,9 @@ fn list(opening: &Opening, events: &[Event], seen: &mut Coverage) -> Compared {
             given.insert(i, Given { card, amount });
         }
         seen.answer(e, a);
+        if let Answer::Committed(_) = a {
+            seen.reads_behind += behind;
+        }
         answers.push(a);
     }
     same("totals", lent.totals(), (ledger.table.started, ledger.table.counter))?;
@@ -66,6 +70,19 @@ fn list(opening: &Opening, events: &[Event], seen: &mut Coverage) -> Compared {
     held_to_serial_run(opening, events, &answers, &given, &lent.base, seen)?;
     nothing_lost(opening, events, &answers, &lent.base, seen)?;
     in_one_call(opening, events, &answers, &lent, seen)
+}
+
+/// How many reads a commit, if it passes, leaves behind at its parent's cards.
+fn reads_behind(table: &Table, e: &Event) -> u64 {
+    if e.code != EVENT_COMMIT || e.number == STORE || e.number > table.started {
+        return 0;
+    }
+    let child = table.action(e.number);
+    if child.parent == STORE {
+        return 0;
+    }
+    let parent = table.action(child.parent);
+    (0..ACCOUNTS).filter(|&k| child.reads[k].is_some() && parent.has_card(k)).count() as u64
 }
 
 /// The amount that a read was given, if any; None where the answer is no read's.

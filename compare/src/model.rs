@@ -67,7 +67,7 @@ impl Action {
     }
 
     /// Whether it has a card of its own for the account; of a charge account nobody has one.
-    fn has_card(&self, account: usize) -> bool {
+    pub fn has_card(&self, account: usize) -> bool {
         charge_of(account).is_none() && self.writes[account] != 0
     }
 
