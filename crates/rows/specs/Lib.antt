@@ -1,3 +1,3 @@
--- What the functions on rows ask of their callers, and what a join does for one set.
+-- What the functions on rows ask of their callers: of the rows, and of the sums that are joined.
 pub mod Row
 pub mod Join

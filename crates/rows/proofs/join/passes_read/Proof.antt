@@ -1,6 +1,6 @@
 -- `passes_read` meets its contract: it tests the child's read and then the parent's card, as the definition does. Assumes
 -- nothing.
-use mathlib.Core.Path.{ap, _∙_}
+use mathlib.Core.Path.{ap}
 use mathlib.Core.Bool.{not}
 use borrow.Author.Needs.{needs}
 use borrow.Author.Tests.{eq-eqb, ne-eqb}
