@@ -24,12 +24,14 @@
  *   12  a day file's opening accounts do not rise, or one is above 31
  *   13  an add to an account below 24, or a write to one from 24 on
  *   14  an add of an amount below -1,000,000 or above 1,000,000
- *   15  a sum that 64 signed bits do not hold: the pending sum that an add would leave, the sum that a read would give,
- *       or one that a commit without a clash would leave at the parent; the action stays live
+ *   15  a sum that 64 signed bits do not hold: the pending sum or the own adds that an add would leave, the sum that a
+ *       read would give, or one that a commit without a clash would leave at the parent, and the action stays live; or a
+ *       total or a sum of a tree
  * An event's refusals are asked in the order 1 to 8, 13, 14, 9, 15, and the first that applies is given. A list asks 1,
  * 2, then 10. A day asks 1, then 2 for the table's length alone, then its file, in an order of its own: 10 where it is
  * empty, 11 for the count of cards, 10 where it ends before the count of events, 11 for that count, 10 for its length,
- * 12 for its accounts. So a file of the one byte 33 is cut, and is refused 11.
+ * 12 for its accounts. So a file of the one byte 33 is cut, and is refused 11. A tree asks 1, also for the opening
+ * store, then 2, then 15; a day's tree asks 1 likewise, and then what a day asks.
  *
  * Accounts 24 to 31 are charge accounts. The first 8 bytes of such a card are an amount in cents, a signed 64-bit
  * number in two's complement, low byte first; the other 24 are the caller's own. An add joins the action's pending sum,
@@ -48,14 +50,19 @@ extern "C" {
 /* Sizes. compare/build.rs reads these lines, and the values of the two enums below: plain numbers, one to a line. */
 #define MUNDZAVCH_ACTIONS 64          /* that a table sees in its life, numbered from 1 */
 #define MUNDZAVCH_ACCOUNTS 32         /* numbered from 0 */
-#define MUNDZAVCH_ROW_WORDS 75        /* uint64_t words in a row of a table: a head, then a row for each action */
-#define MUNDZAVCH_TABLE_WORDS 4875    /* uint64_t words in a table */
+#define MUNDZAVCH_ROW_WORDS 83        /* uint64_t words in a row of a table: a head, then a row for each action */
+#define MUNDZAVCH_TABLE_WORDS 5395    /* uint64_t words in a table */
 #define MUNDZAVCH_CARD_BYTES 32
 #define MUNDZAVCH_BASE_BYTES 1024     /* byte 32 k is the first of account k's card */
 #define MUNDZAVCH_SHADOW_BYTES 65536  /* byte 1024 (n - 1) + 32 k is the first of action n's card for account k */
 #define MUNDZAVCH_EVENT_BYTES 35      /* in a list or a day file: code, number, account, a byte each, then the card */
 #define MUNDZAVCH_ANSWER_WORDS 4      /* in a list's answers: kind, first, second, third */
-#define MUNDZAVCH_LISTING_BYTES 81920 /* every day's listing fits */
+#define MUNDZAVCH_LISTING_BYTES 81920 /* every day's listing fits, and every day's tree */
+#define MUNDZAVCH_REPORT_WORDS 1248   /* in the report of a tree */
+#define MUNDZAVCH_LINE_WORDS 19       /* of it in an action's line: depth, number, state, then own adds and total of each
+                                         of the accounts 24 to 31 */
+#define MUNDZAVCH_BLOCK_AT 1216       /* where its last block begins */
+#define MUNDZAVCH_BLOCK_WORDS 4       /* in a line of the last block: account, opening, sum, closing */
 
 /* Codes of the events. `number` is the action, or the parent for a start, 0 for the store. */
 enum {
@@ -118,6 +125,23 @@ uint64_t mundzavch_run(uint64_t *table, size_t words, uint8_t *base, size_t base
  * one line, `refused` and the number; table and stores stay. */
 size_t mundzavch_day(const uint8_t *file, size_t file_bytes, uint64_t *table, size_t words, uint8_t *base,
                      size_t base_bytes, uint8_t *shadow, size_t shadow_bytes, uint8_t *listing);
+
+/* The tree of a table: what each action added to the charge accounts itself and with its committed children, and that
+ * opening and sum make closing. Nothing is changed but the report. `opening` is the base store as it stood when the
+ * table was new, MUNDZAVCH_BASE_BYTES of it. *lines is how many action lines stand at the front of the report, each
+ * action's directly above those of its children, and children by rising number; a figure is an int64_t. Words between
+ * the lines and the last block stay. Returns 0, or why there is no report (1, 2 or 15); then the report stays, and
+ * *lines is 0. */
+uint64_t mundzavch_tree(const uint64_t *table, size_t words, const uint8_t *base, size_t base_bytes,
+                        const uint8_t *shadow, size_t shadow_bytes, const uint8_t *opening, size_t opening_bytes,
+                        uint64_t *report, uint64_t *lines);
+
+/* A whole day file, run as mundzavch_day runs it; `opening` becomes its opening base store. Returns the length of its
+ * tree as text, which stands at the front of the MUNDZAVCH_LISTING_BYTES bytes at `text`; those behind it stay. A day
+ * that is refused (1, 2, 10, 11 or 12) has one line, `refused` and the number; table and stores stay. */
+size_t mundzavch_day_tree(const uint8_t *file, size_t file_bytes, uint64_t *table, size_t words, uint8_t *base,
+                          size_t base_bytes, uint8_t *shadow, size_t shadow_bytes, uint8_t *opening,
+                          size_t opening_bytes, uint8_t *text);
 
 #ifdef __cplusplus
 }

@@ -5,7 +5,7 @@ use mathlib.Core.List.{map}
 use Rattle.rules.specs.Range.{upFrom, any, all, count, filter, fold}
 use Rattle.rules.specs.Card.{accounts, chargeAccounts, cardAt, withCard}
 use Rattle.rules.specs.Amount.{amountOf, amountWord, isAmount, isAddable, lowFirst, bytesLowFirst, amountIn, withAmount, baseAmount}
-use Rattle.rules.specs.Table.{word, withWord, withFields, newTable, hasWrites, withSets, actions, hasLiveChild, isRecordOf, records}
+use Rattle.rules.specs.Table.{word, withWord, withFields, withoutAdds, newTable, hasWrites, withSets, actions, hasLiveChild, isRecordOf, records}
 use Rattle.rules.specs.Walk.{walkUp, isAtOrBelow}
 use Rattle.rules.specs.Sound.{hasReadInTime, hasEndAlone, hasPendingWritten, isSoundAction, sound}
 use Rattle.rules.specs.Cause.{commitSum, isCommitOutside, isReadOutside, areOutside, storeCauses, earlyCauses, lateCauses, causesOf, causeOf}
@@ -24,15 +24,15 @@ use Rattle.cases.specs.Example.{example, exampleRun, exampleExpected}
 use Rattle.cases.specs.InR.{nested, nestedInR, nestedExpected}
 
 pub cases-hold : map (λ c. resultOf (c .question)) cases ≡ map (λ c. c .expected) cases
-unfolding upFrom any all count filter fold accounts chargeAccounts cardAt withCard amountOf amountWord isAmount isAddable lowFirst bytesLowFirst amountIn withAmount baseAmount word withWord withFields newTable hasWrites withSets actions hasLiveChild isRecordOf records walkUp isAtOrBelow hasReadInTime hasEndAlone hasPendingWritten isSoundAction sound commitSum isCommitOutside isReadOutside areOutside storeCauses earlyCauses lateCauses causesOf causeOf nearest movesUp readSum lookCause look pairsWith clashesWith clashes least firstClash start startTable readAnswer read readTable write writeTable add addTable commit commitTime commitCounter joinTable commitTable putCards settledCard settledBase joinedShadow committedUnder judged abort abortTable act step run resultOf cases
+unfolding upFrom any all count filter fold accounts chargeAccounts cardAt withCard amountOf amountWord isAmount isAddable lowFirst bytesLowFirst amountIn withAmount baseAmount word withWord withFields withoutAdds newTable hasWrites withSets actions hasLiveChild isRecordOf records walkUp isAtOrBelow hasReadInTime hasEndAlone hasPendingWritten isSoundAction sound commitSum isCommitOutside isReadOutside areOutside storeCauses earlyCauses lateCauses causesOf causeOf nearest movesUp readSum lookCause look pairsWith clashesWith clashes least firstClash start startTable readAnswer read readTable write writeTable add addTable commit commitTime commitCounter joinTable commitTable putCards settledCard settledBase joinedShadow committedUnder judged abort abortTable act step run resultOf cases
 cases-hold = refl
 
 -- the example of specs/Example.antt
 pub example-holds : exampleRun ≡ exampleExpected
-unfolding upFrom any all count filter fold accounts chargeAccounts cardAt withCard amountOf amountWord isAmount isAddable lowFirst bytesLowFirst amountIn withAmount baseAmount word withWord withFields newTable hasWrites withSets actions hasLiveChild isRecordOf records walkUp isAtOrBelow hasReadInTime hasEndAlone hasPendingWritten isSoundAction sound commitSum isCommitOutside isReadOutside areOutside storeCauses earlyCauses lateCauses causesOf causeOf nearest movesUp readSum pairsWith clashesWith clashes least firstClash start startTable readAnswer read readTable write writeTable add addTable commit commitTime commitCounter joinTable commitTable putCards settledCard settledBase joinedShadow committedUnder judged abort abortTable act step run lay cardOver sumOver put commitsAt laidAll stepped collectOne collectFrom unknown storeBlock scheduleOf showsCard showsSum showsAmount settle written ended perform performAll serial example exampleRun exampleExpected
+unfolding upFrom any all count filter fold accounts chargeAccounts cardAt withCard amountOf amountWord isAmount isAddable lowFirst bytesLowFirst amountIn withAmount baseAmount word withWord withFields withoutAdds newTable hasWrites withSets actions hasLiveChild isRecordOf records walkUp isAtOrBelow hasReadInTime hasEndAlone hasPendingWritten isSoundAction sound commitSum isCommitOutside isReadOutside areOutside storeCauses earlyCauses lateCauses causesOf causeOf nearest movesUp readSum pairsWith clashesWith clashes least firstClash start startTable readAnswer read readTable write writeTable add addTable commit commitTime commitCounter joinTable commitTable putCards settledCard settledBase joinedShadow committedUnder judged abort abortTable act step run lay cardOver sumOver put commitsAt laidAll stepped collectOne collectFrom unknown storeBlock scheduleOf showsCard showsSum showsAmount settle written ended perform performAll serial example exampleRun exampleExpected
 example-holds = refl
 
 -- the list of specs/InR.antt
 pub nested-holds : nestedInR ≡ nestedExpected
-unfolding upFrom any all count filter fold accounts chargeAccounts cardAt withCard amountOf amountWord isAmount isAddable lowFirst bytesLowFirst amountIn withAmount baseAmount word withWord withFields newTable hasWrites withSets actions hasLiveChild isRecordOf records walkUp isAtOrBelow hasReadInTime hasEndAlone hasPendingWritten isSoundAction sound commitSum isCommitOutside isReadOutside areOutside storeCauses earlyCauses lateCauses causesOf causeOf nearest movesUp readSum pairsWith clashesWith clashes least firstClash start startTable readAnswer read readTable write writeTable add addTable commit commitTime commitCounter joinTable commitTable putCards settledCard settledBase joinedShadow committedUnder judged abort abortTable act step run put commitsAt noStarts withCommits withStartAt lineageOne lineageFrom lineageOf isInR nested nestedInR nestedExpected
+unfolding upFrom any all count filter fold accounts chargeAccounts cardAt withCard amountOf amountWord isAmount isAddable lowFirst bytesLowFirst amountIn withAmount baseAmount word withWord withFields withoutAdds newTable hasWrites withSets actions hasLiveChild isRecordOf records walkUp isAtOrBelow hasReadInTime hasEndAlone hasPendingWritten isSoundAction sound commitSum isCommitOutside isReadOutside areOutside storeCauses earlyCauses lateCauses causesOf causeOf nearest movesUp readSum pairsWith clashesWith clashes least firstClash start startTable readAnswer read readTable write writeTable add addTable commit commitTime commitCounter joinTable commitTable putCards settledCard settledBase joinedShadow committedUnder judged abort abortTable act step run put commitsAt noStarts withCommits withStartAt lineageOne lineageFrom lineageOf isInR nested nestedInR nestedExpected
 nested-holds = refl

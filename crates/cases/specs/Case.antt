@@ -1,4 +1,4 @@
--- RULES 12: the worked cases that are proved, in one list; proofs/Cases.antt proves all of them by one theorem.
+-- RULES 13: the worked cases that are proved, in one list; proofs/Cases.antt proves all of them by one theorem.
 -- Assumes nothing.
 use Prim.Native.Nat.{ℕ}
 use mathlib.Core.List.{List, [], _∷_, map}

@@ -10,6 +10,7 @@ use rows::fields::set_end_time;
 use rows::fields::set_last_start;
 use rows::fields::set_parent;
 use rows::fields::set_state;
+use rows::sets::clear_own_adds;
 use rows::sets::clear_sets;
 use rules::table::LIVE;
 use rules::table::NO_END;
@@ -26,6 +27,7 @@ pub fn start(table: &mut [u64], p: u64) -> u64
     set_parent(table, n, p);
     set_state(table, n, LIVE);
     set_end_time(table, n, NO_END);
+    clear_own_adds(table, n);
     clear_sets(table, n);
     n
 }

@@ -75,6 +75,6 @@ unfoldable pub linesOf : List ℕ → ℕ → ℕ → ℕ → List ℕ
 linesOf words place i zero = []
 linesOf words place i (suc n) = lineAt words place i ++ linesOf words (suc place) (suc i) n
 
--- the listing of a day that is run: a line for each of its answers, and the line of its table's two totals
+-- the listing of a day that is run: a line for each of its answers, and the line of its table's two numbers
 unfoldable pub listingOf : List ℕ → ℕ → List ℕ → List ℕ
 listingOf words count table = linesOf words 1 0 count ++ endLine (started table) (counter table)

@@ -1,7 +1,7 @@
 // The fields of the head and of an action, by name.
 ghost use mathlib.Core.Path.{_≡_};
 ghost use Rattle.rules.specs.Card.{IsAccount, IsCharge};
-ghost use Rattle.rules.specs.Table.{started, withStarted, counter, withCounter, parentOf, withParent, stateOf, withState, endTime, withEndTime, readEntry, withRead, hasWritten, hasCard, writeEntry, withWrite, pendingWord, withPending, isLive, isCommitted};
+ghost use Rattle.rules.specs.Table.{started, withStarted, counter, withCounter, parentOf, withParent, stateOf, withState, endTime, withEndTime, readEntry, withRead, hasWritten, hasCard, writeEntry, withWrite, pendingWord, withPending, ownAddsWord, withOwnAdds, isLive, isCommitted};
 ghost use Rattle.rows.specs.Row.{HasRow};
 use crate::words::get;
 use crate::words::put;
@@ -12,6 +12,7 @@ use rules::table::END_FIELD;
 use rules::table::HEAD;
 use rules::table::LIVE;
 use rules::table::NO_ENTRY;
+use rules::table::OWN_ADDS_FIELDS;
 use rules::table::PARENT_FIELD;
 use rules::table::PENDING_FIELDS;
 use rules::table::READ_FIELDS;
@@ -171,4 +172,21 @@ pub fn set_pending(table: &mut [u64], n: u64, k: u64, v: u64)
     ensures { λ r. ⌜ now (table .exit) ≡ withPending (now (table .entry)) n k v ⌝ }
 {
     put(table, n, PENDING_FIELDS + k, v);
+}
+
+// The word of its own adds.
+pub fn own_adds(table: &[u64], n: u64, k: u64) -> u64
+    requires { ⌜ HasRow (now table) n ⌝ }
+    requires { ⌜ IsCharge k ⌝ }
+    ensures { λ r. ⌜ r ≡ ownAddsWord (now (table .entry)) n k ⌝ }
+{
+    get(table, n, OWN_ADDS_FIELDS + k)
+}
+
+pub fn set_own_adds(table: &mut [u64], n: u64, k: u64, v: u64)
+    requires { ⌜ HasRow (now table) n ⌝ }
+    requires { ⌜ IsCharge k ⌝ }
+    ensures { λ r. ⌜ now (table .exit) ≡ withOwnAdds (now (table .entry)) n k v ⌝ }
+{
+    put(table, n, OWN_ADDS_FIELDS + k, v);
 }

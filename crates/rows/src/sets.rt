@@ -1,7 +1,7 @@
-// The read set, the write set and the pending sums of an action.
+// The read set, the write set, the pending sums and the own adds of an action.
 ghost use Prim.Native.Nat.{_+_};
 ghost use mathlib.Core.Path.{_≡_};
-ghost use Rattle.rules.specs.Table.{withFields, hasWrites, hasEnd, withSets};
+ghost use Rattle.rules.specs.Table.{withFields, hasWrites, hasEnd, withoutAdds, withSets};
 ghost use Rattle.rows.specs.Row.{HasRow, HasAccountFields, IsFirstAccount, accountsFrom};
 use crate::fields::has_written;
 use crate::fields::is_committed;
@@ -10,6 +10,7 @@ use rules::store::ACCOUNTS;
 use rules::store::FIRST_ACCOUNT;
 use rules::store::FIRST_CHARGE;
 use rules::table::NO_ENTRY;
+use rules::table::OWN_ADDS_FIELDS;
 use rules::table::PENDING_FIELDS;
 use rules::table::READ_FIELDS;
 use rules::table::WRITE_FIELDS;
@@ -57,4 +58,12 @@ pub fn clear_sets(table: &mut [u64], n: u64)
     clear_fields(table, n, READ_FIELDS, FIRST_ACCOUNT);
     clear_fields(table, n, WRITE_FIELDS, FIRST_ACCOUNT);
     clear_fields(table, n, PENDING_FIELDS, FIRST_CHARGE);
+}
+
+// A start's row: no own adds, whatever stood there.
+pub fn clear_own_adds(table: &mut [u64], n: u64)
+    requires { ⌜ HasRow (now table) n ⌝ }
+    ensures { λ r. ⌜ now (table .exit) ≡ withoutAdds (now (table .entry)) n ⌝ }
+{
+    clear_fields(table, n, OWN_ADDS_FIELDS, FIRST_CHARGE);
 }

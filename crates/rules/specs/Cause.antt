@@ -8,7 +8,7 @@ use lib.IntN.{ℤ, _+ℤ_}
 use Rattle.rules.specs.Card.{accountCount, isCharge, chargeAccounts, cardLength, baseLength, shadowLength}
 use Rattle.rules.specs.Amount.{isAmount, isAddable, amountIn, baseAmount}
 use Rattle.rules.specs.Range.{any}
-use Rattle.rules.specs.Table.{mostActions, started, parentOf, hasWritten, pendingSum, isLive, hasLiveChild}
+use Rattle.rules.specs.Table.{mostActions, started, parentOf, hasWritten, pendingSum, ownAdds, isLive, hasLiveChild}
 use Rattle.rules.specs.Sound.{sound}
 use Rattle.rules.specs.Event.{Event, startCode, addCode, isStart, isRead, isWrite, isCommit, isAdd}
 use Rattle.rules.specs.Nearest.{readSum}
@@ -115,9 +115,10 @@ isCommitOutside w base n (At t k) = false
 unfoldable pub isReadOutside : List ℕ → List ℕ → ℕ → ℕ → Bool
 isReadOutside w base n k = isCharge k && not (isAmount (readSum w base n k))
 
--- the pending sum that n's add of this card's amount to charge account k leaves is outside
+-- the pending sum that n's add of this card's amount to charge account k leaves is outside, or its own adds are
 abbrev pub isAddOutside : List ℕ → ℕ → ℕ → List ℕ → Bool
-isAddOutside w n k card = not (isAmount (pendingSum w n k +ℤ amountIn card))
+isAddOutside w n k card =
+    not (isAmount (pendingSum w n k +ℤ amountIn card)) || not (isAmount (ownAdds w n k +ℤ amountIn card))
 
 -- which sums an event makes: by its code, so that a clash is searched for at a commit alone
 pub data Sums : Type 0 where

@@ -10,7 +10,7 @@ use Rattle.rules.specs.Ledger.{Ledger, ledgerOf, withTable}
 use Rattle.rules.specs.Range.{count, fold}
 use Rattle.rules.specs.Card.{accounts, isCharge, basePlace, shadowPlace, cardAt, withCard}
 use Rattle.rules.specs.Amount.{amountWord, amountIn, withAmount, baseAmount}
-use Rattle.rules.specs.Table.{live, committed, aborted, started, withStarted, counter, withCounter, parentOf, withParent, withState, withEndTime, readEntry, withRead, hasRead, writeEntry, withWrite, entered, hasWritten, hasWrites, hasCard, pendingWord, withPending, pendingSum, withSets, isLive, actions}
+use Rattle.rules.specs.Table.{live, committed, aborted, started, withStarted, counter, withCounter, parentOf, withParent, withState, withEndTime, readEntry, withRead, hasRead, writeEntry, withWrite, entered, hasWritten, hasWrites, hasCard, pendingWord, withPending, pendingSum, ownAdds, withOwnAdds, withoutAdds, withSets, isLive, actions}
 use Rattle.rules.specs.Walk.{isAtOrBelow}
 use Rattle.rules.specs.Event.{Event, isStart, isRead, isWrite, isCommit, isAdd}
 use Rattle.rules.specs.Cause.{causeOf}
@@ -33,7 +33,8 @@ outcomeOf answer table base shadow = record { answer = answer; after = ledgerOf 
 unfoldable pub startTable : List ℕ → ℕ → List ℕ
 startTable w p =
     let n = started w + 1 in
-    withSets (withEndTime (withState (withParent (withStarted w n) n p) n live) n 0) n (λ k. 0) (λ k. 0) (λ k. 0)
+    let opened = withEndTime (withState (withParent (withStarted w n) n p) n live) n 0 in
+    withSets (withoutAdds opened n) n (λ k. 0) (λ k. 0) (λ k. 0)
 
 unfoldable pub start : Ledger → ℕ → Outcome
 start s p = record { answer = Started (started (s .table) + 1); after = withTable s (startTable (s .table) p) }
@@ -72,7 +73,9 @@ write s n k card =
 -- ---- RULES 2.10: add
 
 unfoldable pub addTable : List ℕ → ℕ → ℕ → ℤ → List ℕ
-addTable w n k x = withPending (withWrite w n k entered) n k (amountWord (pendingSum w n k +ℤ x))
+addTable w n k x =
+    let summed = withPending (withWrite w n k entered) n k (amountWord (pendingSum w n k +ℤ x)) in
+    withOwnAdds summed n k (amountWord (ownAdds w n k +ℤ x))
 
 unfoldable pub add : Ledger → ℕ → ℕ → List ℕ → Outcome
 add s n k card = record { answer = Added; after = withTable s (addTable (s .table) n k (amountIn card)) }

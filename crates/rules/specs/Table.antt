@@ -20,14 +20,14 @@ IsAction n = (1 ≤ n) × (n ≤ mostActions)
 
 -- the words of a row
 abbrev pub width : ℕ
-width = 75
+width = 83
 
 abbrev pub IsField : ℕ → Type 0
 IsField f = f < width
 
 -- the words of a table: the head's row and a row for each action
 abbrev pub tableLength : ℕ
-tableLength = 4875
+tableLength = 5395
 
 -- word f of row n
 unfoldable pub word : List ℕ → ℕ → ℕ → ℕ
@@ -159,6 +159,27 @@ withPending w n k v = withWord w n (pendingField k) v
 
 abbrev pub pendingSum : List ℕ → ℕ → ℕ → ℤ
 pendingSum w n k = amountOf (pendingWord w n k)
+
+-- its own adds for charge account k, which are the sum of the adds that it did itself, and the word that this is; the first
+-- charge account's stands behind the pending sums
+abbrev pub ownAddsFields : ℕ
+ownAddsFields = 51
+
+abbrev pub ownAddsField : ℕ → ℕ
+ownAddsField k = ownAddsFields + k
+
+abbrev pub ownAddsWord : List ℕ → ℕ → ℕ → ℕ
+ownAddsWord w n k = word w n (ownAddsField k)
+
+abbrev pub withOwnAdds : List ℕ → ℕ → ℕ → ℕ → List ℕ
+withOwnAdds w n k v = withWord w n (ownAddsField k) v
+
+abbrev pub ownAdds : List ℕ → ℕ → ℕ → ℤ
+ownAdds w n k = amountOf (ownAddsWord w n k)
+
+-- action n has added nothing to any of them
+unfoldable pub withoutAdds : List ℕ → ℕ → List ℕ
+withoutAdds w n = withFields w n ownAddsField chargeAccounts (λ k. 0)
 
 -- both sets and the pending sums of action n given anew: account k's read entry is reads k, its write entry writes k, and of a
 -- charge account the sum's word is sums k

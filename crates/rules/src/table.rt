@@ -1,9 +1,9 @@
 // RULES 1.7: the table's words. Row 0 is the head, row n is action n.
 pub const MOST_ACTIONS: u64 = 64;
 
-pub const WIDTH: u64 = 75;
+pub const WIDTH: u64 = 83;
 
-pub const TABLE_LENGTH: usize = 4875;
+pub const TABLE_LENGTH: usize = 5395;
 
 // The number of the store, where an action's could stand, and the head's row.
 pub const STORE: u64 = 0;
@@ -29,6 +29,9 @@ pub const WRITE_FIELDS: u64 = 35;
 // A pending sum stands this far behind its account's number: the first charge account's directly behind the write set.
 pub const PENDING_FIELDS: u64 = 43;
 
+// Its own adds stand this far behind it: the first charge account's directly behind the pending sums.
+pub const OWN_ADDS_FIELDS: u64 = 51;
+
 // The moves up to a version that is where one stands, and those of a refused look.
 pub const NO_MOVES: u64 = 0;
 
@@ -37,7 +40,7 @@ pub const NO_ENTRY: u64 = 0;
 
 pub const ENTERED: u64 = 1;
 
-// The word of a pending sum that is 0.
+// The word of a pending sum, or of own adds, that is 0.
 pub const NO_SUM: u64 = 0;
 
 // The end time of an action that has none, and the first that one can have.

@@ -1,4 +1,4 @@
-// A new table, and a table's two totals: all that a caller asks of a table outside of events.
+// A new table, and a table's two numbers: all that a caller asks of a table outside of events.
 ghost use mathlib.Core.Path.{_≡_};
 ghost use Rattle.rules.specs.Table.{started, counter};
 ghost use Rattle.table.specs.Open.{openCause, openTable};

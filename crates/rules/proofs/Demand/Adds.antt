@@ -8,14 +8,14 @@ use mathlib.Core.List.{List}
 use lib.IntN.{_+ℤ_}
 use Rattle.rules.specs.Card.{accountCount, IsCharge}
 use Rattle.rules.specs.Amount.{amountOf, isAmount, amountIn}
-use Rattle.rules.specs.Table.{width, word, writeField, writeEntry, pendingField, pendingWord, pendingSum}
+use Rattle.rules.specs.Table.{word, writeField, writeEntry, pendingField, pendingWord, pendingSum}
 use Rattle.rules.specs.Ledger.{Ledger}
 use Rattle.rules.specs.Step.{addTable, add}
 use Rattle.rules.specs.Serial.Effect.{adds, lay}
 use Rattle.rules.proofs.Laws.Amounts.{amount-read-back}
 use Rattle.rules.proofs.Laws.Permitted.{Touchable}
 use Rattle.rules.proofs.Sound.TableChanges.{TableChange}
-use Rattle.rules.proofs.Sound.Adding.{add-keeps-field, add-keeps-row, add-entry, add-pending, add-change}
+use Rattle.rules.proofs.Sound.Adding.{firstOwnAdds, add-keeps-field, add-keeps-row, add-entry, add-pending, add-change}
 use Rattle.rules.proofs.Demand.Abstraction.{effectOf}
 use Rattle.rules.proofs.Demand.Proper.{Proper}
 use Rattle.rules.proofs.Demand.AbstractionLaws.{effect-sum, sum-laid}
@@ -37,7 +37,7 @@ module _
   table-change : TableChange (s .table) table′ n
   table-change = add-change (s .table) (proper .sound) n k own alive charge (amountIn card)
 
-  field-kept : (m g : ℕ) → g < width → g ≢ writeField k → g ≢ pendingField k → word table′ m g ≡ word (s .table) m g
+  field-kept : (m g : ℕ) → g < firstOwnAdds → g ≢ writeField k → g ≢ pendingField k → word table′ m g ≡ word (s .table) m g
   field-kept = add-keeps-field (s .table) (proper .sound) n k own alive charge (amountIn card)
 
   row-kept : (m : ℕ) → m ≢ n → RowKept (s .table) table′ m

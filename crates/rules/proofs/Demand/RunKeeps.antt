@@ -103,7 +103,7 @@ module _
 
   step-keeps : KeptAfter (step s e)
   unfolding KeptAfter collectOne commitsAt stepped laidAll
-  step-keeps = step-by-kind s e KeptAfter (λ _ _ _. kept) starts reads writes judges (λ permitted _. joins permitted) aborts
+  step-keeps = step-by-kind s e KeptAfter (λ _ _ _. kept) starts reads writes judges (λ permitted _ charge fits. joins permitted charge (fits .pendingFits)) aborts
 
 -- ---- a list of events
 

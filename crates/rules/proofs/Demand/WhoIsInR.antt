@@ -132,7 +132,7 @@ module _ (s : Ledger) (proper : Proper s) (e : Event) where
   unfolding AsTold
   event-tells =
       step-by-kind s e AsTold refused starts (λ permitted _. reads permitted) writes (λ j f _. judges j f)
-      (λ permitted _. joins permitted) aborts
+      (λ permitted _ charge fits. joins permitted charge (fits .pendingFits)) aborts
 
 -- ---- a list of events
 

@@ -12,7 +12,7 @@ use Rattle.rules.specs.declared.Found.{Found}
 use Rattle.rules.specs.declared.Found.the-variants.{Nothing}
 use Rattle.rules.specs.Card.{accountCount, firstCharge, chargeCount, isCharge, chargeAccounts, IsCharge, IsCard}
 use Rattle.rules.specs.Amount.{isAmount, amountIn}
-use Rattle.rules.specs.Table.{mostActions, started, parentOf, hasWritten, pendingSum, isLive, isLiveChildOf, hasLiveChild, actions}
+use Rattle.rules.specs.Table.{mostActions, started, parentOf, hasWritten, pendingSum, ownAdds, isLive, isLiveChildOf, hasLiveChild, actions}
 use Rattle.rules.specs.Sound.{IsStarted}
 use Rattle.rules.specs.Event.{Event, commitCode, addCode, isStart, isRead, isWrite, isCommit, isAdd}
 use Rattle.rules.specs.Ledger.{Ledger}
@@ -20,7 +20,7 @@ use Rattle.rules.specs.Nearest.{readSum}
 use Rattle.rules.specs.Clash.{firstClash}
 use Rattle.rules.specs.Cause.{commitSum, isCommitOutside, isReadOutside, inRead, inAdd, inCommit, sumsOf, areOutside}
 use Rattle.rules.specs.Step.{Outcome, start, read, write, judged, commit, add, abort, step}
-use Rattle.rules.proofs.Laws.Tests.{and-both, not-both, or-cases, or-inl, or-inr, not-fails, and-fails, leb-holds, leb-fails}
+use Rattle.rules.proofs.Laws.Tests.{and-both, not-both, or-cases, or-inl, or-inr, not-fails, and-fails, or-fails, leb-holds, leb-fails}
 use Rattle.rules.proofs.Laws.Ranges.{not-any-at}
 use Rattle.rules.proofs.Laws.Sets.{charge-within}
 use Rattle.rules.proofs.Laws.EventCases.{causeIn, AllowedIn, step-by-cause, act-by-kind, read-no-start, write-no-start, commit-no-start, add-no-start}
@@ -43,6 +43,11 @@ pub record Committable (w : List ℕ) (n : ℕ) : Type 0 where
   pub own : IsStarted w n
   pub alive : isLive w n ≡ true
   pub childless : hasLiveChild w n ≡ false
+
+-- the sums that n's add of this card's amount to charge account k leaves are amounts
+pub record AddFits (w : List ℕ) (n k : ℕ) (card : List ℕ) : Type 0 where
+  pub pendingFits : isAmount (pendingSum w n k +ℤ amountIn card) ≡ true
+  pub ownAddsFit : isAmount (ownAdds w n k +ℤ amountIn card) ≡ true
 
 -- ---- what an event that isn't refused permits
 
@@ -93,9 +98,11 @@ module _ {s : Ledger} {e : Event} (a : AllowedIn s e) where
   unfolding areOutside
   read-fits is = rw (sums-of-read e is) at (a .sumsFit)
 
-  add-fits : isAdd e ≡ true → isAmount (pendingSum (s .table) (e .number) (e .account) +ℤ amountIn (e .card)) ≡ true
+  add-fits : isAdd e ≡ true → AddFits (s .table) (e .number) (e .account) (e .card)
   unfolding areOutside
-  add-fits is = not-fails _ .0 (rw (sums-of-add e is) at (a .sumsFit))
+  add-fits is =
+      let (pending, own) = or-fails _ _ .0 (rw (sums-of-add e is) at (a .sumsFit)) in
+      record { pendingFits = not-fails _ .0 pending; ownAddsFit = not-fails _ .0 own }
 
   commit-fits : isCommit e ≡ true → isCommitOutside (s .table) (s .base) (e .number) (firstClash (s .table) (e .number)) ≡ false
   unfolding areOutside
@@ -119,8 +126,7 @@ module _ (s : Ledger) (e : Event) (P : Outcome → Type 0) where
       (Committable (s .table) (e .number) → (f : Found) → firstClash (s .table) (e .number) ≡ f →
       isCommitOutside (s .table) (s .base) (e .number) f ≡ false → P (judged s (e .number) f)) →
       (Touchable (s .table) (e .number) (e .account) → IsCard (e .card) → IsCharge (e .account) →
-      isAmount (pendingSum (s .table) (e .number) (e .account) +ℤ amountIn (e .card)) ≡ true →
-      P (add s (e .number) (e .account) (e .card))) →
+      AddFits (s .table) (e .number) (e .account) (e .card) → P (add s (e .number) (e .account) (e .card))) →
       P (abort s (e .number)) → P (step s e)
   unfolding commit
   step-by-kind refused starts reads writes judges adds aborts =

@@ -1,4 +1,4 @@
--- Both sets and the pending sums of an action given anew: what stands in the table then. Assumes nothing.
+-- Both sets and the pending sums of an action given anew, and its own adds cleared: what stands in the table then. Assumes nothing.
 use Prim.Native.Nat.{ℕ, _≤_, _<_}
 use native.Mathlib.Omega.{arith}
 use mathlib.Core.Path.{_≡_, _∙_}
@@ -7,7 +7,7 @@ use mathlib.Core.List.{List}
 use lib.ListN.{length}
 use Rattle.rules.specs.Range.{upFrom}
 use Rattle.rules.specs.Card.{accountCount, accounts, firstCharge, chargeCount, IsCharge, chargeAccounts}
-use Rattle.rules.specs.Table.{width, tableLength, word, withFields, readFields, readField, readEntry, writeField, writeEntry, pendingField, pendingWord, withSets, mostActions}
+use Rattle.rules.specs.Table.{width, tableLength, word, withFields, readFields, readField, readEntry, writeField, writeEntry, pendingField, pendingWord, ownAddsField, ownAddsWord, withoutAdds, withSets, mostActions}
 use Rattle.rules.proofs.Laws.Ranges.{Within}
 use Rattle.rules.proofs.Laws.Fields.{withFields-length, withFields-other-row, withFields-other-field, withFields-same}
 
@@ -42,6 +42,14 @@ module _ (w : List ℕ) (n : ℕ) (reads writes sums : ℕ → ℕ) where
       ∙ withFields-other-field _ n writeField 0 accountCount _ g (λ k h z. omega arith)
       ∙ withFields-other-field w n readField 0 accountCount _ g (λ k h z. omega arith)
 
+  -- own adds
+  pub withSets-own-adds : (k : ℕ) → IsCharge k → ownAddsWord (withSets w n reads writes sums) n k ≡ ownAddsWord w n k
+  unfolding withSets accounts chargeAccounts
+  withSets-own-adds k charge =
+      withFields-other-field _ n pendingField firstCharge chargeCount _ (ownAddsField k) (λ j h z. omega arith)
+      ∙ withFields-other-field _ n writeField 0 accountCount _ (ownAddsField k) (λ j h z. omega arith)
+      ∙ withFields-other-field w n readField 0 accountCount _ (ownAddsField k) (λ j h z. omega arith)
+
   module _ (long : length w ≡ tableLength) (few : n ≤ mostActions) where
     with-reads : length (withFields w n readField (upFrom 0 accountCount) reads) ≡ tableLength
     with-reads = withFields-length w n readField 0 accountCount reads ∙ long
@@ -66,3 +74,28 @@ module _ (w : List ℕ) (n : ℕ) (reads writes sums : ℕ → ℕ) where
         withFields-same _ n pendingField firstCharge chargeCount _
         (withFields-length _ n writeField 0 accountCount _ ∙ with-reads) few k
         (charge-within charge) (omega arith) (λ x h ne z. ne (omega arith))
+
+-- ---- own adds cleared
+
+module _ (w : List ℕ) (n : ℕ) where
+  pub withoutAdds-length : length (withoutAdds w n) ≡ length w
+  unfolding withoutAdds chargeAccounts
+  withoutAdds-length = withFields-length w n ownAddsField firstCharge chargeCount _
+
+  -- the rows of others
+  pub withoutAdds-other-row : (m g : ℕ) → g < width → m ≢ n → word (withoutAdds w n) m g ≡ word w m g
+  unfolding withoutAdds chargeAccounts
+  withoutAdds-other-row m g hg ne =
+      withFields-other-row w n ownAddsField firstCharge chargeCount _ m g (λ k h. omega arith) hg ne
+
+  -- parent, state and end time
+  pub withoutAdds-other-field : (g : ℕ) → g < readFields → word (withoutAdds w n) n g ≡ word w n g
+  unfolding withoutAdds chargeAccounts
+  withoutAdds-other-field g hg = withFields-other-field w n ownAddsField firstCharge chargeCount _ g (λ k h z. omega arith)
+
+  pub withoutAdds-same :
+      length w ≡ tableLength → n ≤ mostActions → (k : ℕ) → IsCharge k → ownAddsWord (withoutAdds w n) n k ≡ 0
+  unfolding withoutAdds chargeAccounts
+  withoutAdds-same long few k charge =
+      withFields-same w n ownAddsField firstCharge chargeCount _ long few k
+      (charge-within charge) (omega arith) (λ x h ne z. ne (omega arith))

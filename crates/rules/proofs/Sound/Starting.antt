@@ -12,14 +12,14 @@ use lib.Dec.{eqb}
 use lib.ListN.{length}
 use Rattle.rules.specs.Range.{count}
 use Rattle.rules.specs.Card.{accountCount, IsCharge}
-use Rattle.rules.specs.Table.{hasEnd, width, tableLength, mostActions, live, committed, word, startedField, started, withStarted, counterField, counter, parentField, parentOf, withParent, stateField, stateOf, withState, endField, endTime, withEndTime, readField, readEntry, writeField, writeEntry, hasRead, readTime, hasWritten, pendingField, pendingWord, isLive, isCommitted, actions}
+use Rattle.rules.specs.Table.{hasEnd, width, tableLength, mostActions, live, committed, word, startedField, started, withStarted, counterField, counter, parentField, parentOf, withParent, stateField, stateOf, withState, endField, endTime, withEndTime, readField, readEntry, writeField, writeEntry, hasRead, readTime, hasWritten, pendingField, pendingWord, ownAddsWord, withoutAdds, isLive, isCommitted, actions}
 use Rattle.rules.specs.Sound.{IsStarted, Sound}
 use Rattle.rules.specs.Step.{startTable}
 use Rattle.rules.proofs.Laws.Walking.{parent-known}
 use Rattle.rules.proofs.Laws.Tests.{and-left, not-both}
 use Rattle.rules.proofs.Laws.Ranges.{count-agree, count-snoc}
 use Rattle.rules.proofs.Laws.Words.{withWord-length, word-same, word-other-row, word-other-field}
-use Rattle.rules.proofs.Laws.Sets.{withSets-length, withSets-other-row, withSets-other-field, withSets-read, withSets-write, withSets-pending}
+use Rattle.rules.proofs.Laws.Sets.{withSets-length, withSets-other-row, withSets-other-field, withSets-read, withSets-write, withSets-pending, withSets-own-adds, withoutAdds-length, withoutAdds-other-row, withoutAdds-other-field, withoutAdds-same}
 use Rattle.rules.proofs.Sound.TableChanges.{writes-agree, live-uncommitted}
 
 module _ (w : List ℕ) (p : ℕ) where
@@ -27,7 +27,8 @@ module _ (w : List ℕ) (p : ℕ) where
   abbrev pub new : ℕ
   new = started w + 1
 
-  -- the table with the head, then the parent, then the state, then the end time put in; the sets and sums come last
+  -- the table with the head, then the parent, then the state, then the end time put in, and the own adds; the sets and sums
+  -- come last
   abbrev headed : List ℕ
   headed = withStarted w new
 
@@ -37,12 +38,15 @@ module _ (w : List ℕ) (p : ℕ) where
   abbrev stated : List ℕ
   stated = withState parented new live
 
+  abbrev timed : List ℕ
+  timed = withEndTime stated new 0
+
   abbrev filled : List ℕ
-  filled = withEndTime stated new 0
+  filled = withoutAdds timed new
 
   filled-length : length filled ≡ length w
   filled-length =
-      withWord-length stated new endField 0 ∙ withWord-length parented new stateField live ∙ withWord-length headed new parentField p ∙ withWord-length w 0 startedField new
+      withoutAdds-length timed new ∙ withWord-length stated new endField 0 ∙ withWord-length parented new stateField live ∙ withWord-length headed new parentField p ∙ withWord-length w 0 startedField new
 
   pub start-length : length (startTable w p) ≡ length w
   unfolding startTable
@@ -53,6 +57,7 @@ module _ (w : List ℕ) (p : ℕ) where
   unfolding startTable
   start-keeps-row m g h one ne =
       withSets-other-row filled new _ _ _ m g h ne
+      ∙ withoutAdds-other-row timed new m g h ne
       ∙ word-other-row stated new m endField g 0 (omega arith) h ne
       ∙ word-other-row parented new m stateField g live (omega arith) h ne
       ∙ word-other-row headed new m parentField g p (omega arith) h ne
@@ -63,6 +68,7 @@ module _ (w : List ℕ) (p : ℕ) where
   unfolding startTable
   head-from g h =
       withSets-other-row filled new _ _ _ 0 g h (λ z. omega arith)
+      ∙ withoutAdds-other-row timed new 0 g h (λ z. omega arith)
       ∙ word-other-row stated new 0 endField g 0 (omega arith) h (λ z. omega arith)
       ∙ word-other-row parented new 0 stateField g live (omega arith) h (λ z. omega arith)
       ∙ word-other-row headed new 0 parentField g p (omega arith) h (λ z. omega arith)
@@ -91,6 +97,7 @@ module _ (w : List ℕ) (p : ℕ) where
     unfolding startTable
     start-parent =
         withSets-other-field filled new _ _ _ parentField (omega arith)
+        ∙ withoutAdds-other-field timed new parentField (omega arith)
         ∙ word-other-field stated new endField parentField 0 (λ z. omega arith)
         ∙ word-other-field parented new stateField parentField live (λ z. omega arith)
         ∙ word-same headed new parentField p headed-long (omega arith) (omega arith)
@@ -99,6 +106,7 @@ module _ (w : List ℕ) (p : ℕ) where
     unfolding startTable
     start-state =
         withSets-other-field filled new _ _ _ stateField (omega arith)
+        ∙ withoutAdds-other-field timed new stateField (omega arith)
         ∙ word-other-field stated new endField stateField 0 (λ z. omega arith)
         ∙ word-same parented new stateField live parented-long (omega arith) (omega arith)
 
@@ -106,6 +114,7 @@ module _ (w : List ℕ) (p : ℕ) where
     unfolding startTable
     start-end =
         withSets-other-field filled new _ _ _ endField (omega arith)
+        ∙ withoutAdds-other-field timed new endField (omega arith)
         ∙ word-same stated new endField 0 stated-long (omega arith) (omega arith)
 
     pub start-read : (k : ℕ) → k < accountCount → readEntry (startTable w p) new k ≡ 0
@@ -119,6 +128,12 @@ module _ (w : List ℕ) (p : ℕ) where
     pub start-pending : (k : ℕ) → IsCharge k → pendingWord (startTable w p) new k ≡ 0
     unfolding startTable
     start-pending = withSets-pending filled new _ _ _ filled-long (omega arith)
+
+    pub start-own-adds : (k : ℕ) → IsCharge k → ownAddsWord (startTable w p) new k ≡ 0
+    unfolding startTable
+    start-own-adds k charge =
+        withSets-own-adds filled new _ _ _ k charge
+        ∙ withoutAdds-same timed new (withWord-length stated new endField 0 ∙ stated-long) (omega arith) k charge
 
 -- ---- the table stays sound
 

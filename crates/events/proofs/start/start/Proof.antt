@@ -22,6 +22,9 @@ set-state-requires c κs = search needs
 set-end-time-requires : tie.Need-set-end-time-requires
 set-end-time-requires c κs = search needs
 
+clear-own-adds-requires : tie.Need-clear-own-adds-requires
+clear-own-adds-requires c κs = search needs
+
 clear-sets-requires : tie.Need-clear-sets-requires
 clear-sets-requires c κs = search needs
 
@@ -32,13 +35,14 @@ returns : tie.Need-returns
 unfolding startTable
 returns c =
     let emptied = c .before .before in
-    let ended = emptied .before .before .before .before in
+    let unadded = emptied .before .before .before .before in
+    let ended = unadded .before .before .before .before in
     let lives = ended .before .before .before .before in
     let placed = lives .before .before .before .before in
     let counted = placed .before .before .before .before in
     let last = counted .before .before .last-start .ensures in (
       rw last,
-      rw (← last, ← counted .set-last-start .ensures, ← placed .set-parent .ensures, ← lives .set-state .ensures, ← ended .set-end-time .ensures)
+      rw (← last, ← counted .set-last-start .ensures, ← placed .set-parent .ensures, ← lives .set-state .ensures, ← ended .set-end-time .ensures, ← unadded .clear-own-adds .ensures)
           (emptied .clear-sets .ensures),
     )
 
@@ -52,6 +56,7 @@ start-spec =
     set-parent-requires
     set-state-requires
     set-end-time-requires
+    clear-own-adds-requires
     clear-sets-requires
     same-length
     returns)
