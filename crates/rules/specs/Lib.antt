@@ -17,4 +17,6 @@ pub mod Look
 pub mod Step
 pub mod Run
 pub mod Touch
+pub mod Tree
 pub mod Serial
+pub mod Balanced
