@@ -147,7 +147,7 @@ fn chain(depth: u64) -> Ledger {
     w
 }
 
-/// One event again and again, where after the first time it changes nothing, or a pending sum alone.
+/// One event again and again, where after the first time it changes nothing, or pending sum and own adds alone.
 fn repeated(what: &str, mut ledger: Ledger, e: Event) -> Row {
     done(&mut ledger, &e);
     let mut lent = lend(&ledger);
@@ -245,6 +245,57 @@ fn charge_commits(rows: &mut Vec<Row>) {
     ));
 }
 
+/// A start, and an add to every charge account by the new action.
+fn start_and_add(w: &mut Ledger, parent: u64) {
+    done(w, &of(EVENT_START, parent, NO_ACCOUNT));
+    let number = w.table.started;
+    for account in CHARGE_ACCOUNT..ACCOUNTS as u64 {
+        done(w, &add(number, account));
+    }
+}
+
+/// As many actions as a table has, one below the other, each with adds and committed.
+fn deep_adders() -> Ledger {
+    let mut w = new_world();
+    for parent in STORE..ACTIONS as u64 {
+        start_and_add(&mut w, parent);
+    }
+    for n in (1..=ACTIONS as u64).rev() {
+        done(&mut w, &of(EVENT_COMMIT, n, NO_ACCOUNT));
+    }
+    w
+}
+
+/// A topaction and its children, each with adds and committed.
+fn wide_adders() -> Ledger {
+    let mut w = new_world();
+    start_and_add(&mut w, STORE);
+    for n in 2..=ACTIONS as u64 {
+        start_and_add(&mut w, 1);
+        done(&mut w, &of(EVENT_COMMIT, n, NO_ACCOUNT));
+    }
+    done(&mut w, &of(EVENT_COMMIT, 1, NO_ACCOUNT));
+    w
+}
+
+fn trees(rows: &mut Vec<Row>) {
+    let wide = format!("a tree, {} children of one topaction", ACTIONS - 1);
+    let deep = format!("a tree, {ACTIONS} actions one below the other");
+    for (what, ledger) in [(deep, deep_adders()), (wide, wide_adders())] {
+        let (lent, opening, mut report) = (lend(&ledger), new_world().base, Box::new([0; REPORT_WORDS]));
+        assert!(ledger.tree(&opening).is_ok(), "{what} is refused");
+        rows.push(measure(
+            &what,
+            &mut || {
+                black_box(lent.tree(&opening, &mut report));
+            },
+            &mut || {
+                black_box(ledger.tree(&opening)).ok();
+            },
+        ));
+    }
+}
+
 fn growth(rows: &mut Vec<Row>) {
     for power in 0..=ACTIONS.ilog2() {
         let count = 1 << power;
@@ -278,6 +329,7 @@ pub fn bench(file: Option<&str>) -> Result<(), String> {
     looks(&mut rows);
     searches(&mut rows);
     charge_commits(&mut rows);
+    trees(&mut rows);
     growth(&mut rows);
     let table = table(&rows);
     print!("{table}");

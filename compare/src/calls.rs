@@ -1,4 +1,4 @@
-//! The calls beside event and look, on parts of any length and content: a list in one call, opening, the totals.
+//! The calls beside event and look, on parts of any length and content: a list in one call, opening, the two numbers.
 
 use crate::cause;
 use crate::coverage::Coverage;
@@ -58,9 +58,9 @@ fn expected_list(before: &Lent, bytes: &[u8], room: usize) -> (u64, Lent, Vec<u6
     (cause::NONE, after, words)
 }
 
-pub fn open_and_totals(before: &Lent) -> Compared {
+pub fn open_and_two_numbers(before: &Lent) -> Compared {
     let word = |i: usize| before.table.get(i).copied().unwrap_or(0);
-    same("totals", before.totals(), (word(STARTED), word(COUNTER)))?;
+    same("the two numbers", before.two_numbers(), (word(STARTED), word(COUNTER)))?;
     let fits = before.table.len() == TABLE_WORDS;
     let mut lent = before.clone();
     same("open", lent.open(), if fits { cause::NONE } else { cause::UNSOUND })?;

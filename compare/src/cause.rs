@@ -1,4 +1,4 @@
-//! The numbers of the causes (docs/RULES.md, 8.1, 9.2 and 11).
+//! The numbers of the causes (docs/RULES.md, 8.1, 9.2, 11 and 12).
 
 pub const NONE: u64 = 0;
 pub const STORE_LENGTH: u64 = 1;

@@ -1,6 +1,7 @@
 //! Library and second engine side by side on generated input. The first difference is made small, printed, and ends
 //! the run.
 
+use crate::cases::check_cases;
 use crate::coverage::Coverage;
 use crate::damaged::check_damaged;
 use crate::days::check_days;
@@ -11,10 +12,11 @@ use std::io::{stderr, IsTerminal, Write};
 const EVENTS_TO_A_TABLE: u64 = 10;
 const EVENTS_TO_A_DAY: u64 = 100;
 
-/// All of it, by `count` events in lists, and fewer damaged tables and days; whether nothing differs.
+/// All of it: the cases, `count` events in lists, and fewer damaged tables and days; whether nothing differs.
 pub fn check(count: u64, seed: u64) -> bool {
     let mut seen = Coverage::default();
-    let result = check_lists(count, seed, &mut seen)
+    let result = check_cases(&mut seen)
+        .and_then(|()| check_lists(count, seed, &mut seen))
         .and_then(|()| check_damaged(count / EVENTS_TO_A_TABLE, seed, &mut seen))
         .and_then(|()| check_days(count / EVENTS_TO_A_DAY, seed, &mut seen));
     progress("");

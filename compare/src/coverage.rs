@@ -3,6 +3,7 @@
 use crate::cause;
 use crate::header::{EVENT_ADD, EVENT_COMMIT, EVENT_READ};
 use crate::model::{amount_in, Answer, Event, Unsound, FIRST_CHARGE};
+use crate::trees::Report;
 use std::collections::BTreeMap;
 use std::fmt;
 
@@ -26,10 +27,23 @@ pub struct Coverage {
     pub serial_sums: u64,
     pub amounts_held: u64,
     pub damaged: u64,
+    pub own_adds_refused: u64,
+    pub cases: u64,
+    trees: u64,
+    tree_refusals: BTreeMap<u64, u64>,
+    damaged_trees: u64,
+    far_trees: u64,
+    pub closings_held: u64,
+    pub totals_not_own: u64,
     days: u64,
     day_refusals: BTreeMap<u64, u64>,
+    day_trees: u64,
+    day_tree_refusals: BTreeMap<u64, u64>,
     events: u64,
 }
+
+/// The causes of a tree, each of which is shown, also with a count of 0.
+const TREE_CAUSES: [u64; 3] = [cause::STORE_LENGTH, cause::UNSOUND, cause::SUM];
 
 impl Coverage {
     pub fn answer(&mut self, e: &Event, a: Answer) {
@@ -81,16 +95,50 @@ impl Coverage {
         }
     }
 
+    pub fn tree(&mut self, cause: u64) {
+        self.trees += 1;
+        if cause != cause::NONE {
+            *self.tree_refusals.entry(cause).or_default() += 1;
+        }
+    }
+
+    pub fn damaged_tree(&mut self, report: &Report) {
+        self.damaged_trees += u64::from(report.cause == cause::NONE);
+        self.far_trees += u64::from(report.has_far_own_adds());
+    }
+
     pub fn day(&mut self, listing: &str) {
         self.days += 1;
-        if let Some(fault) = listing.strip_prefix("refused ").and_then(|f| f.trim_end().parse().ok()) {
-            *self.day_refusals.entry(fault).or_default() += 1;
+        if let Some(cause) = refusal(listing) {
+            *self.day_refusals.entry(cause).or_default() += 1;
+        }
+    }
+
+    pub fn day_tree(&mut self, text: &str) {
+        self.day_trees += 1;
+        if let Some(cause) = refusal(text) {
+            *self.day_tree_refusals.entry(cause).or_default() += 1;
         }
     }
 
     pub fn compared(&self) -> u64 {
-        self.events + self.list_calls + self.days
+        self.events + self.list_calls + self.cases + self.trees + self.days + self.day_trees
     }
+
+    fn show_trees(&self, f: &mut fmt::Formatter) -> fmt::Result {
+        writeln!(f, "cases: {}, trees: {}", self.cases, self.trees)?;
+        let count = |cause| self.tree_refusals.get(&cause).copied().unwrap_or(0);
+        row(f, "trees refused by number", &TREE_CAUSES.map(|cause| (cause, count(cause))).into())?;
+        let (passed, far) = (self.damaged_trees, self.far_trees);
+        writeln!(f, "trees of damaged tables that passed: {passed}, with own adds near an end: {far}")?;
+        writeln!(f, "totals other than own adds: {}", self.totals_not_own)?;
+        writeln!(f, "closings held to opening and sum: {}", self.closings_held)
+    }
+}
+
+/// The cause that a day's text says, if it is refused.
+fn refusal(text: &str) -> Option<u64> {
+    text.strip_prefix("refused ")?.trim_end().parse().ok()
 }
 
 /// The event that made a sum.
@@ -127,6 +175,7 @@ impl fmt::Display for Coverage {
         row(f, "adds", &self.adds)?;
         row(f, "sums read", &self.sums)?;
         row(f, "refused 15 by event", &self.sums_refused)?;
+        writeln!(f, "adds refused 15 for own adds alone: {}", self.own_adds_refused)?;
         writeln!(f, "failed over a charge account: {}", self.charge_clashes)?;
         writeln!(f, "reads left behind at a parent's card: {}", self.reads_behind)?;
         writeln!(f, "lists: {}, lists in one call: {}", self.lists, self.list_calls)?;
@@ -136,7 +185,10 @@ impl fmt::Display for Coverage {
         writeln!(f, "damaged tables and stores: {}", self.damaged)?;
         row(f, "unsound by clause", &self.unsound)?;
         writeln!(f, "sound all the same: {}, tables of another length: {}", self.sound, self.table_length)?;
+        self.show_trees(f)?;
         writeln!(f, "days: {}", self.days)?;
-        row(f, "days refused by number", &self.day_refusals)
+        row(f, "days refused by number", &self.day_refusals)?;
+        writeln!(f, "trees of days: {}", self.day_trees)?;
+        row(f, "trees of days refused by number", &self.day_tree_refusals)
     }
 }

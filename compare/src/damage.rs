@@ -1,8 +1,9 @@
 //! Damage to tables and stores.
 
-use crate::generate::extreme;
+use crate::generate::{any_base, busy_charge, extreme};
 use crate::header::*;
-use crate::library::{Lent, ABORTED, COMMITTED, COUNTER, END, LIVE, PARENT, PENDING, READS, STARTED, STATE, WRITES};
+use crate::library::{Lent, ABORTED, COMMITTED, LIVE};
+use crate::library::{COUNTER, END, OWN_ADDS, PARENT, PENDING, READS, STARTED, STATE, WRITES};
 use crate::model::{base_card, put_amount, CHARGE_ACCOUNTS, FIRST_CHARGE};
 use crate::random::Random;
 
@@ -37,6 +38,7 @@ damages! {
     EndTimeTwice,
     PendingAstray,
     PendingAtEnds,
+    OwnAddsAtEnds,
     BaseAtEnds,
 }
 
@@ -50,6 +52,10 @@ const BASE_LENGTHS: [usize; 6] = [0, 1, BASE_BYTES - CARD_BYTES, BASE_BYTES - 1,
 const SHADOW_LENGTHS: [usize; 6] = [0, 1, BASE_BYTES, SHADOW_BYTES - 1, SHADOW_BYTES + 1, SHADOW_BYTES + BASE_BYTES];
 const TABLE_LENGTHS: [usize; 7] =
     [0, COUNTER, COUNTER + 1, ROW_WORDS, TABLE_WORDS - 1, TABLE_WORDS + 1, TABLE_WORDS + ROW_WORDS];
+/// One opening store in so many has another length.
+const OTHER_OPENING: u64 = 8;
+/// One action in so many gets other own adds: all, some or few of them.
+const OWN_ADDS_RARE: [u64; 3] = [1, 2, 8];
 /// What a store is filled up with where it grows.
 const FILL: u8 = 7;
 
@@ -79,6 +85,7 @@ pub fn damage(r: &mut Random, kind: Damage, lent: &mut Lent) {
         UnusedHead => lent.table[COUNTER + 1 + r.below((ROW_WORDS - COUNTER - 1) as u64) as usize] = r.next(),
         UnusedRow => damage_unused_row(r, &mut lent.table),
         PendingAtEnds => damage_sums(r, &mut lent.table),
+        OwnAddsAtEnds => damage_own_adds(r, &mut lent.table),
         _ => damage_action(r, kind, &mut lent.table),
     }
 }
@@ -112,6 +119,38 @@ fn damage_sums(r: &mut Random, words: &mut [u64]) {
             }
         }
     }
+}
+
+/// Own adds of actions in any state put at an end of 64 bits, near it, or near 0. One account alone or all of them:
+/// with all, hardly a table is left in which every total is an amount.
+fn damage_own_adds(r: &mut Random, words: &mut [u64]) {
+    let one = busy_charge(r);
+    let charges = if r.one_in(2) { 0..CHARGE_ACCOUNTS } else { one..one + 1 };
+    let rare = *r.pick(&OWN_ADDS_RARE);
+    for n in 1..=started(words) {
+        for c in charges.clone() {
+            if r.one_in(rare) {
+                row(words, n)[OWN_ADDS + c] = any_own_adds(r) as u64;
+            }
+        }
+    }
+}
+
+fn any_own_adds(r: &mut Random) -> i64 {
+    match r.below(4) {
+        0 => *r.pick(&[-1, 0, 1]),
+        1 => extreme(r),
+        _ => *r.pick(&[i64::MAX, i64::MIN]),
+    }
+}
+
+/// An opening store of any content, mostly of its length.
+pub fn any_opening(r: &mut Random) -> Vec<u8> {
+    let mut opening = any_base(r);
+    if r.one_in(OTHER_OPENING) {
+        opening.resize(*r.pick(&BASE_LENGTHS), FILL);
+    }
+    opening
 }
 
 fn damage_unused_row(r: &mut Random, words: &mut [u64]) {

@@ -1,17 +1,18 @@
 //! Single events, and the other calls, on tables and stores that are damaged, or look so.
 
-use crate::calls::{list_call, open_and_totals};
+use crate::calls::{list_call, open_and_two_numbers};
 use crate::cause;
 use crate::coverage::Coverage;
-use crate::damage::{damage, DAMAGES};
+use crate::damage::{any_opening, damage, DAMAGES};
 use crate::generate::{event, events, shape};
-use crate::header::{BASE_BYTES, SHADOW_BYTES};
+use crate::header::{BASE_BYTES, EVENT_ADD, SHADOW_BYTES};
 use crate::library::{decode, encode, Lent};
 use crate::lists::Opening;
-use crate::model::{Answer, Event, Ledger, Shown};
+use crate::model::{amount_in, Answer, Event, Ledger, Shown, FIRST_CHARGE};
 use crate::random::Random;
 use crate::same::{same, same_lent, Compared};
 use crate::shrink::{described, smallest_list};
+use crate::trees::tree;
 
 /// What the stores hold before the list.
 const BASE: [u8; BASE_BYTES] = [3; BASE_BYTES];
@@ -35,10 +36,20 @@ fn expected(lent: &Lent, e: &Event, seen: &mut Coverage) -> (Answer, Lent, Resul
         seen.soundness(ledger.table.soundness());
     }
     let a = ledger.event(e);
+    seen.own_adds_refused += u64::from(refused_for_own_adds(&ledger, e, a));
     let mut words = lent.table.clone();
     encode(&ledger.table, &mut words);
     let look = ledger.look(e.number, e.account);
     (a, Lent { table: words, base: ledger.base, shadow: ledger.shadow }, look)
+}
+
+/// Whether an add was refused for its own adds alone: what it would leave pending is an amount.
+fn refused_for_own_adds(ledger: &Ledger, e: &Event, a: Answer) -> bool {
+    if e.code != EVENT_ADD || a != Answer::Refused(cause::SUM) {
+        return false;
+    }
+    let pending = ledger.table.action(e.number).pending[e.account as usize - FIRST_CHARGE];
+    pending.checked_add(amount_in(&e.card)).is_some()
 }
 
 /// Every call on a table that a list left, after one or two kinds of damage.
@@ -56,7 +67,9 @@ fn damaged(seed: u64, history: &[Event], seen: &mut Coverage) -> Compared {
         damage(&mut r, kind, &mut lent);
     }
     list_call(&mut r, &lent, &ledger, seen)?;
-    open_and_totals(&lent)?;
+    open_and_two_numbers(&lent)?;
+    let report = tree(&lent, &any_opening(&mut r), seen)?;
+    seen.damaged_tree(&report);
     let shape = shape(&mut r);
     let e = event(&mut r, &ledger, shape, false);
     let (a, after, look) = expected(&lent, &e, seen);

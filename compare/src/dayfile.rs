@@ -1,4 +1,4 @@
-//! A day file read, run and listed by the second engine.
+//! A day file read, run, and listed or reported as a tree, by the second engine.
 
 use crate::cause;
 use crate::header::{ACCOUNTS, BASE_BYTES, CARD_BYTES, EVENT_BYTES, SHADOW_BYTES};
@@ -101,10 +101,40 @@ pub fn run_day(file: &[u8], shadow: Vec<u8>) -> (String, Option<Ledger>) {
     (lines, Some(ledger))
 }
 
+/// What stands after a day, and the base store that it began with.
+pub struct Run {
+    pub ledger: Ledger,
+    pub opening: Vec<u8>,
+}
+
+/// The text of a day's tree, over a shadow store that may hold anything, and what stands after it: nothing where the
+/// file is refused.
+pub fn day_tree(file: &[u8], shadow: Vec<u8>) -> (String, Option<Run>) {
+    let day = match parse(file) {
+        Ok(day) => day,
+        Err(fault) => return (refused_line(fault), None),
+    };
+    let mut ledger = Ledger::new(day.base.clone(), shadow);
+    for e in &day.events {
+        ledger.sound_event(e);
+    }
+    let tree = ledger.tree(&day.base).expect("the tree of a new table's events is not refused");
+    (tree.to_string(), Some(Run { ledger, opening: day.base }))
+}
+
+fn read(path: &str) -> Result<Vec<u8>, String> {
+    std::fs::read(path).map_err(|e| format!("{path}: {e}"))
+}
+
 /// Prints a day file's lines as the day program does, and asks the library nothing.
 pub fn print_lines(path: &str) -> Result<(), String> {
-    let file = std::fs::read(path).map_err(|e| format!("{path}: {e}"))?;
-    print!("{}", run_day(&file, vec![0; SHADOW_BYTES]).0);
+    print!("{}", run_day(&read(path)?, vec![0; SHADOW_BYTES]).0);
+    Ok(())
+}
+
+/// Prints a day file's tree as the tree program does, by the second engine alone as well.
+pub fn print_tree(path: &str) -> Result<(), String> {
+    print!("{}", day_tree(&read(path)?, vec![0; SHADOW_BYTES]).0);
     Ok(())
 }
 

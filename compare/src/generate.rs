@@ -116,6 +116,11 @@ fn account(r: &mut Random, code: u64) -> u64 {
     first as u64 + r.below(among)
 }
 
+/// One of the charge accounts that most events are about, counted from 0.
+pub fn busy_charge(r: &mut Random) -> usize {
+    r.below(BUSY_CHARGE_ACCOUNTS) as usize
+}
+
 fn start(r: &mut Random, live: &[u64], shape: Shape) -> u64 {
     let under = match shape {
         Shape::Deep => !r.one_in(10),

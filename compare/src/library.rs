@@ -1,27 +1,36 @@
-//! The library over its C ABI, and the table's words as the second engine's structs: the one place that translates.
+//! The library over its C ABI, and the words of tables and reports as the second engine's structs: the one place that
+//! translates.
 
 use crate::cause;
 use crate::header::*;
 use crate::model::{Action, Answer, Event, Shown, State, Table, Version, CHARGE_ACCOUNTS};
+use crate::tree::{Line, Tree};
 
 /// Words of row 0, the head.
 pub const STARTED: usize = 0;
 pub const COUNTER: usize = 1;
-/// Words of row n, action n. Each set has a word for every account, from here on, and the pending sums one for every
-/// charge account.
+/// Words of row n, action n. Each set has a word for every account, from here on, and the pending sums and own adds
+/// one for every charge account.
 pub const PARENT: usize = 0;
 pub const STATE: usize = 1;
 pub const END: usize = 2;
 pub const READS: usize = 3;
 pub const WRITES: usize = READS + ACCOUNTS;
 pub const PENDING: usize = WRITES + ACCOUNTS;
+pub const OWN_ADDS: usize = PENDING + CHARGE_ACCOUNTS;
 /// What the state's word says.
 pub const LIVE: u64 = 1;
 pub const COMMITTED: u64 = 2;
 pub const ABORTED: u64 = 3;
+/// Words of a report's line. The figures are two for every charge account, own adds and total.
+pub const LINE_NUMBER: usize = 1;
+pub const LINE_FIGURES: usize = 3;
 
-const _: () = assert!(ROW_WORDS == PENDING + CHARGE_ACCOUNTS, "a row ends with the pending sums");
+const _: () = assert!(ROW_WORDS == OWN_ADDS + CHARGE_ACCOUNTS, "a row ends with the own adds");
 const _: () = assert!(TABLE_WORDS == ROW_WORDS * (ACTIONS + 1), "a table is a head and a row for each action");
+const _: () = assert!(LINE_WORDS == LINE_FIGURES + 2 * CHARGE_ACCOUNTS, "a report's line ends with the figures");
+const _: () = assert!(BLOCK_AT == LINE_WORDS * ACTIONS, "a report has room for a line of each action");
+const _: () = assert!(REPORT_WORDS == BLOCK_AT + BLOCK_WORDS * CHARGE_ACCOUNTS, "a report ends with the last block");
 
 /// What stands where a refused look must not write.
 const UNTOUCHED: u8 = 0xee;
@@ -82,6 +91,31 @@ extern "C" {
         shadow: *mut u8,
         shadow_length: usize,
         listing: *mut u8,
+    ) -> usize;
+    fn mundzavch_tree(
+        table: *const u64,
+        words: usize,
+        base: *const u8,
+        base_length: usize,
+        shadow: *const u8,
+        shadow_length: usize,
+        opening: *const u8,
+        opening_length: usize,
+        report: *mut u64,
+        lines: *mut u64,
+    ) -> u64;
+    fn mundzavch_day_tree(
+        file: *const u8,
+        file_length: usize,
+        table: *mut u64,
+        words: usize,
+        base: *mut u8,
+        base_length: usize,
+        shadow: *mut u8,
+        shadow_length: usize,
+        opening: *mut u8,
+        opening_length: usize,
+        text: *mut u8,
     ) -> usize;
 }
 
@@ -145,11 +179,30 @@ impl Lent {
         &listing[..length]
     }
 
+    /// The cause, none where there is a report, and how many lines stand in its front.
+    pub fn tree(&self, opening: &[u8], report: &mut [u64; REPORT_WORDS]) -> (u64, u64) {
+        let (out, mut lines) = (report.as_mut_ptr(), NO_NUMBER);
+        let cause = on_parts!(mundzavch_tree, as_ptr, self, [], [opening.as_ptr(), opening.len(), out, &mut lines]);
+        (cause, lines)
+    }
+
+    pub fn day_tree<'a>(&mut self, file: &[u8], opening: &mut [u8], text: &'a mut [u8; LISTING_BYTES]) -> &'a [u8] {
+        let length = on_parts!(
+            mundzavch_day_tree,
+            as_mut_ptr,
+            self,
+            [file.as_ptr(), file.len()],
+            [opening.as_mut_ptr(), opening.len(), text.as_mut_ptr()]
+        );
+        &text[..length]
+    }
+
     pub fn open(&mut self) -> u64 {
         unsafe { mundzavch_open(self.table.as_mut_ptr(), self.table.len()) }
     }
 
-    pub fn totals(&self) -> (u64, u64) {
+    /// The last start and the counter.
+    pub fn two_numbers(&self) -> (u64, u64) {
         let (table, words) = (self.table.as_ptr(), self.table.len());
         unsafe { (mundzavch_started(table, words), mundzavch_counter(table, words)) }
     }
@@ -222,6 +275,7 @@ pub fn decode(words: &[u64]) -> Option<Table> {
         }
         for c in 0..CHARGE_ACCOUNTS {
             a.pending[c] = row[PENDING + c] as i64;
+            a.own_adds[c] = row[OWN_ADDS + c] as i64;
         }
         a
     });
@@ -242,6 +296,26 @@ pub fn encode(t: &Table, words: &mut [u64]) {
         }
         for c in 0..CHARGE_ACCOUNTS {
             row[PENDING + c] = a.pending[c] as u64;
+            row[OWN_ADDS + c] = a.own_adds[c] as u64;
         }
+    }
+}
+
+fn line_words(line: &Line) -> Vec<u64> {
+    let mut words = vec![line.depth, line.number, state_word(line.state)];
+    for (&own, &total) in line.own_adds.iter().zip(&line.total) {
+        words.extend([own as u64, total as u64]);
+    }
+    words
+}
+
+/// The tree written over a report's words; those between the lines and the last block stay.
+pub fn encode_tree(tree: &Tree, report: &mut [u64; REPORT_WORDS]) {
+    let (lines, block) = report.split_at_mut(BLOCK_AT);
+    for (words, line) in lines.chunks_mut(LINE_WORDS).zip(&tree.lines) {
+        words.copy_from_slice(&line_words(line));
+    }
+    for (words, b) in block.chunks_mut(BLOCK_WORDS).zip(&tree.block) {
+        words.copy_from_slice(&[b.account, b.opening as u64, b.sum as u64, b.closing as u64]);
     }
 }

@@ -1,4 +1,5 @@
-//! Lists of events on both engines, event by event and in one call, and held to the serial run.
+//! Lists of events on both engines, event by event and in one call, with the tree that they leave, and held to the
+//! serial run.
 
 use crate::cause;
 use crate::coverage::Coverage;
@@ -11,6 +12,7 @@ use crate::random::Random;
 use crate::same::{same, same_bytes, same_lent, same_words, Compared};
 use crate::serial::{added_in_r, serial_run, Given};
 use crate::shrink::{described, smallest_list};
+use crate::trees::tree_of_list;
 use std::collections::HashMap;
 
 /// What a buffer holds before a call fills it.
@@ -38,7 +40,7 @@ impl Opening {
     }
 }
 
-/// A list, event by event: answer, table, both stores, and what a look shows; then the serial run, and the
+/// A list, event by event: answer, table, both stores, and what a look shows; then the tree, the serial run, and the
 /// same list in one call.
 fn list(opening: &Opening, events: &[Event], seen: &mut Coverage) -> Compared {
     let mut lent = opening.lend();
@@ -65,8 +67,9 @@ fn list(opening: &Opening, events: &[Event], seen: &mut Coverage) -> Compared {
         }
         answers.push(a);
     }
-    same("totals", lent.totals(), (ledger.table.started, ledger.table.counter))?;
+    same("the two numbers", lent.two_numbers(), (ledger.table.started, ledger.table.counter))?;
     seen.lists += 1;
+    tree_of_list(&lent, &opening.base, seen)?;
     held_to_serial_run(opening, events, &answers, &given, &lent.base, seen)?;
     nothing_lost(opening, events, &answers, &lent.base, seen)?;
     in_one_call(opening, events, &answers, &lent, seen)

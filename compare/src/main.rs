@@ -1,8 +1,9 @@
 //! compare: the library beside a second engine, by results (`check`) and by time (`bench`); or the second engine alone
-//! on a day file (`lines`).
+//! on a day file (`lines`, `tree`).
 
 mod bench;
 mod calls;
+mod cases;
 mod cause;
 mod check;
 mod coverage;
@@ -19,13 +20,16 @@ mod random;
 mod same;
 mod serial;
 mod shrink;
+mod tree;
+mod trees;
 
 use std::process::ExitCode;
 
 const USAGE: &str = "\
 usage: compare/run check [--events N] [--seed S]   both engines on N events in lists, and on other calls by that measure
        compare/run bench                           times of both, put into docs/PERFORMANCE.md
-       compare/run lines FILE                      the lines of a day file, by the second engine alone";
+       compare/run lines FILE                      the lines of a day file, by the second engine alone
+       compare/run tree FILE                       its tree, likewise";
 
 const DEFAULT_EVENTS: u64 = 100_000;
 const DEFAULT_SEED: u64 = 1;
@@ -56,6 +60,7 @@ fn run(args: &[String]) -> Result<bool, String> {
         }
         Some("bench") => bench::bench(behind(args, "--write")).map(|()| true),
         Some("lines") => dayfile::print_lines(args.get(1).ok_or(USAGE)?).map(|()| true),
+        Some("tree") => dayfile::print_tree(args.get(1).ok_or(USAGE)?).map(|()| true),
         _ => Err(USAGE.to_string()),
     }
 }

@@ -35,7 +35,7 @@ pub fn put_amount(card: &mut [u8], amount: i64) {
 }
 
 /// An exact sum as an amount, where it is one.
-fn as_amount(sum: i128) -> Result<i64, u64> {
+pub fn as_amount(sum: i128) -> Result<i64, u64> {
     sum.try_into().map_err(|_| cause::SUM)
 }
 
@@ -58,12 +58,15 @@ pub struct Action {
     pub writes: [u64; ACCOUNTS],
     /// The pending sum of each charge account.
     pub pending: [i64; CHARGE_ACCOUNTS],
+    /// What it has added to each charge account itself.
+    pub own_adds: [i64; CHARGE_ACCOUNTS],
 }
 
 impl Action {
     pub fn new(parent: u64) -> Action {
-        let (reads, writes, pending) = ([None; ACCOUNTS], [0; ACCOUNTS], [0; CHARGE_ACCOUNTS]);
-        Action { parent, state: State::Live, end: 0, reads, writes, pending }
+        let (reads, writes) = ([None; ACCOUNTS], [0; ACCOUNTS]);
+        let (pending, own_adds) = ([0; CHARGE_ACCOUNTS], [0; CHARGE_ACCOUNTS]);
+        Action { parent, state: State::Live, end: 0, reads, writes, pending, own_adds }
     }
 
     /// Whether it has a card of its own for the account; of a charge account nobody has one.
@@ -127,7 +130,7 @@ impl Table {
         &mut self.actions[n as usize - 1]
     }
 
-    fn begun(&self) -> &[Action] {
+    pub fn begun(&self) -> &[Action] {
         &self.actions[..self.started as usize]
     }
 
@@ -362,7 +365,10 @@ impl Ledger {
 
     fn add(&mut self, n: u64, charge: usize, amount: i64) -> Result<Answer, u64> {
         let me = self.table.action_mut(n);
-        me.pending[charge] = as_amount(i128::from(me.pending[charge]) + i128::from(amount))?;
+        let grown = |sum: i64| as_amount(i128::from(sum) + i128::from(amount));
+        let (pending, own) = (grown(me.pending[charge])?, grown(me.own_adds[charge])?);
+        me.pending[charge] = pending;
+        me.own_adds[charge] = own;
         me.writes[FIRST_CHARGE + charge] = 1;
         Ok(Answer::Added)
     }

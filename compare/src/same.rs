@@ -1,6 +1,6 @@
 //! What counts as the same, and how a difference reads.
 
-use crate::header::ROW_WORDS;
+use crate::header::{REPORT_WORDS, ROW_WORDS};
 use crate::library::Lent;
 
 /// Where the two engines part.
@@ -33,6 +33,16 @@ pub fn same_words(ours: &[u64], theirs: &[u64]) -> Compared {
         ours[at],
         theirs[at]
     ))
+}
+
+pub fn same_report(ours: &[u64; REPORT_WORDS], theirs: &[u64; REPORT_WORDS]) -> Compared {
+    match ours.iter().zip(theirs).position(|(a, b)| a != b) {
+        None => Ok(()),
+        Some(at) => Err(format!(
+            "tree: word {at}: the library has {}, the second engine {}",
+            ours[at] as i64, theirs[at] as i64
+        )),
+    }
 }
 
 pub fn same_lent(ours: &Lent, theirs: &Lent) -> Compared {
