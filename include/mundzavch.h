@@ -138,7 +138,7 @@ uint64_t mundzavch_tree(const uint64_t *table, size_t words, const uint8_t *base
 
 /* A whole day file, run as mundzavch_day runs it; `opening` becomes its opening base store. Returns the length of its
  * tree as text, which stands at the front of the MUNDZAVCH_LISTING_BYTES bytes at `text`; those behind it stay. A day
- * that is refused (1, 2, 10, 11 or 12) has one line, `refused` and the number; table and stores stay. */
+ * that is refused (1, 2, 10, 11 or 12) has one line, `refused` and the number; table, stores and `opening` stay. */
 size_t mundzavch_day_tree(const uint8_t *file, size_t file_bytes, uint64_t *table, size_t words, uint8_t *base,
                           size_t base_bytes, uint8_t *shadow, size_t shadow_bytes, uint8_t *opening,
                           size_t opening_bytes, uint8_t *text);

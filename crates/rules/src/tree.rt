@@ -1,0 +1,30 @@
+// RULES 12.6: the words of a tree's report.
+use crate::table::MOST_ACTIONS;
+
+// How many levels a tree has at most.
+pub const MOST_LEVELS: u64 = MOST_ACTIONS;
+
+// The depth of a topaction.
+pub const TOP: u64 = 0;
+
+// A line: depth, number, state, and from here on two figures to a charge account.
+pub const NUMBER_AT: usize = 1;
+
+pub const STATE_AT: usize = 2;
+
+pub const FIGURES_AT: usize = 3;
+
+pub const LINE_LENGTH: usize = 19;
+
+// The last block, and its lines: account, opening, sum, closing.
+pub const BLOCK_AT: usize = 1216;
+
+pub const OPENING_AT: usize = 1;
+
+pub const SUM_AT: usize = 2;
+
+pub const CLOSING_AT: usize = 3;
+
+pub const BALANCE_LENGTH: usize = 4;
+
+pub const REPORT_LENGTH: usize = 1248;
