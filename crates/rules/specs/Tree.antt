@@ -97,6 +97,9 @@ unfoldable pub lineWords : List ℕ → Line → List ℕ
 lineWords w line = line .depth ∷ line .number ∷ stateOf w (line .number) ∷ map amountWord (figuresOf w (line .number))
 
 -- those of the last block's line for charge account k: the account, opening, sum, closing
+abbrev pub balanceLength : ℕ
+balanceLength = 4
+
 unfoldable pub balanceWords : List ℕ → List ℕ → List ℕ → ℕ → List ℕ
 balanceWords w base opening k = k ∷ map amountWord (balanceOf w base opening k)
 
