@@ -7,12 +7,20 @@ pub const MOST_LEVELS: u64 = MOST_ACTIONS;
 // The depth of a topaction.
 pub const TOP: u64 = 0;
 
+// How many lines a refused report has.
+pub const NO_LINES: u64 = 0;
+
 // A line: depth, number, state, and from here on two figures to a charge account.
 pub const NUMBER_AT: usize = 1;
 
 pub const STATE_AT: usize = 2;
 
 pub const FIGURES_AT: usize = 3;
+
+// An account's figures in a line: own adds, then total.
+pub const FIGURES: usize = 2;
+
+pub const TOTAL_AT: usize = 1;
 
 pub const LINE_LENGTH: usize = 19;
 

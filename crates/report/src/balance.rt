@@ -1,0 +1,47 @@
+// The last block: opening and sum beside closing, for each charge account.
+ghost use mathlib.Core.Path.{_≡_};
+ghost use mathlib.Core.List.{flatMap};
+ghost use lib.Seq.{sets};
+ghost use Rattle.rules.specs.Card.{IsBase, IsCharge, chargeAccounts};
+ghost use Rattle.rules.specs.Tree.{balanceLength, blockPlace, balanceWords};
+ghost use Rattle.report.specs.Asked.{FiguresFit, HasRoomFor, IsReport};
+use amounts::bytes::word_at;
+use rules::store::ACCOUNTS;
+use rules::store::FIRST_CHARGE;
+use rules::tree::BALANCE_LENGTH;
+use rules::tree::BLOCK_AT;
+use rules::tree::CLOSING_AT;
+use rules::tree::OPENING_AT;
+use rules::tree::SUM_AT;
+use stores::place::base_place;
+use totals::total::top_sum;
+
+fn put_balance(table: &[u64], base: &[u8], opening: &[u8], report: &mut [u64], at: usize, k: u64)
+    requires { ⌜ FiguresFit (now table) ⌝ }
+    requires { ⌜ IsBase (now base) × IsBase (now opening) ⌝ }
+    requires { ⌜ IsCharge k ⌝ }
+    requires { ⌜ HasRoomFor balanceLength (now report) at ⌝ }
+    ensures { λ r. ⌜ now (report .exit)
+        ≡ sets (now (report .entry)) at
+        (balanceWords (now (table .entry)) (now (base .entry)) (now (opening .entry)) k) ⌝ }
+{
+    report[at] = k;
+    report[at + OPENING_AT] = word_at(opening, base_place(k));
+    report[at + SUM_AT] = top_sum(table, k).word;
+    report[at + CLOSING_AT] = word_at(base, base_place(k));
+}
+
+pub(crate) fn put_block(table: &[u64], base: &[u8], opening: &[u8], report: &mut [u64])
+    requires { ⌜ FiguresFit (now table) ⌝ }
+    requires { ⌜ IsBase (now base) × IsBase (now opening) ⌝ }
+    requires { ⌜ IsReport (now report) ⌝ }
+    ensures { λ r. ⌜ now (report .exit)
+        ≡ sets (now (report .entry)) blockPlace
+        (flatMap (balanceWords (now (table .entry)) (now (base .entry)) (now (opening .entry))) chargeAccounts) ⌝ }
+{
+    let mut at = BLOCK_AT;
+    for k in FIRST_CHARGE..ACCOUNTS {
+        put_balance(table, base, opening, report, at, k);
+        at += BALANCE_LENGTH;
+    }
+}

@@ -1,0 +1,86 @@
+// The lines of the tree: an action's, and directly below it those of its children, each with its own in turn.
+ghost use mathlib.Core.Path.{_≡_};
+ghost use mathlib.Core.List.{flatMap};
+ghost use Prim.Native.Nat.{_+_, _*_};
+ghost use lib.ListN.{length};
+ghost use lib.Seq.{sets};
+ghost use Rattle.rules.specs.Sound.{IsStarted};
+ghost use Rattle.rules.specs.Table.{isChildOf};
+ghost use Rattle.rules.specs.Tree.{lineLength, lineWords, linesWithin};
+ghost use Rattle.rows.specs.Row.{HasRow};
+ghost use Rattle.totals.specs.Total.{IsNext};
+ghost use Rattle.report.specs.Asked.{FiguresFit, HasRoomFor, HasLevels, HasLineRoom, lineOf, linesFrom};
+use crate::figures::put_figures;
+use rows::fields::last_start;
+use rows::fields::parent;
+use rows::fields::state;
+use rules::tree::FIGURES_AT;
+use rules::tree::LINE_LENGTH;
+use rules::tree::NUMBER_AT;
+use rules::tree::STATE_AT;
+
+fn is_child(table: &[u64], p: u64, m: u64) -> bool
+    requires { ⌜ HasRow (now table) m ⌝ }
+    ensures { λ r. ⌜ r ≡ isChildOf (now (table .entry)) p m ⌝ }
+{
+    parent(table, m) == p
+}
+
+fn put_line(table: &[u64], report: &mut [u64], at: usize, n: u64, depth: u64)
+    requires { ⌜ FiguresFit (now table) ⌝ }
+    requires { ⌜ IsStarted (now table) n ⌝ }
+    requires { ⌜ HasRoomFor lineLength (now report) at ⌝ }
+    ensures { λ r. ⌜ now (report .exit)
+        ≡ sets (now (report .entry)) at (lineWords (now (table .entry)) (lineOf depth n)) ⌝ }
+{
+    report[at] = depth;
+    report[at + NUMBER_AT] = n;
+    report[at + STATE_AT] = state(table, n);
+    put_figures(table, report, at + FIGURES_AT, n);
+}
+
+// The lines under p, from so many levels; back comes where the next line goes.
+pub(crate) fn put_under(table: &[u64], report: &mut [u64], at: usize, p: u64, depth: u64, levels: u64) -> usize
+    requires { ⌜ FiguresFit (now table) ⌝ }
+    requires { ⌜ HasLevels depth levels ⌝ }
+    requires { ⌜ HasLineRoom (now report) at (linesWithin levels (now table) depth p) ⌝ }
+    ensures next { λ r. ⌜ r ≡ at + lineLength * length (linesWithin levels (now (table .entry)) depth p) ⌝ }
+    ensures leaves { λ r. ⌜ now (report .exit)
+        ≡ sets (now (report .entry)) at
+        (flatMap (lineWords (now (table .entry))) (linesWithin levels (now (table .entry)) depth p)) ⌝ }
+{
+    if levels == 0 {
+        return at;
+    }
+    put_list(table, report, at, p, 1, depth, levels - 1)
+}
+
+// Those of p's children from i on, each with the lines under it.
+fn put_list(
+    table: &[u64],
+    report: &mut [u64],
+    at: usize,
+    p: u64,
+    i: u64,
+    depth: u64,
+    levels: u64,
+) -> usize
+    requires { ⌜ FiguresFit (now table) ⌝ }
+    requires { ⌜ IsNext (now table) i ⌝ }
+    requires { ⌜ HasLevels (depth + 1) levels ⌝ }
+    requires { ⌜ HasLineRoom (now report) at (linesFrom levels (now table) depth p i) ⌝ }
+    ensures next { λ r. ⌜ r ≡ at + lineLength * length (linesFrom levels (now (table .entry)) depth p i) ⌝ }
+    ensures leaves { λ r. ⌜ now (report .exit)
+        ≡ sets (now (report .entry)) at
+        (flatMap (lineWords (now (table .entry))) (linesFrom levels (now (table .entry)) depth p i)) ⌝ }
+{
+    if last_start(table) < i {
+        return at;
+    }
+    if !is_child(table, p, i) {
+        return put_list(table, report, at, p, i + 1, depth, levels);
+    }
+    put_line(table, report, at, i, depth);
+    let next = put_under(table, report, at + LINE_LENGTH, i, depth + 1, levels);
+    put_list(table, report, next, p, i + 1, depth, levels)
+}

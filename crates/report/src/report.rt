@@ -1,0 +1,37 @@
+// The report of a table's tree, on any table and stores.
+ghost use mathlib.Core.Path.{_≡_};
+ghost use Rattle.rules.specs.Tree.{reportOf, report};
+use crate::balance::put_block;
+use crate::cause::tree_cause;
+use crate::lines::put_under;
+use rows::fields::last_start;
+use rules::cause::NONE;
+use rules::table::STORE;
+use rules::tree::MOST_LEVELS;
+use rules::tree::NO_LINES;
+use rules::tree::REPORT_LENGTH;
+use rules::tree::TOP;
+
+// Back comes the cause, and in `lines` how many lines there are: one for each action.
+pub fn report(
+    table: &[u64],
+    base: &[u8],
+    shadow: &[u8],
+    opening: &[u8],
+    out: &mut [u64; REPORT_LENGTH],
+    lines: &mut u64,
+) -> u64
+    ensures { λ r. ⌜ reportOf r (now (lines .exit)) (now (out .exit))
+        ≡ report (now (table .entry)) (now (base .entry)) (now (shadow .entry)) (now (opening .entry))
+        (now (out .entry)) ⌝ }
+{
+    let cause = tree_cause(table, base, shadow, opening);
+    if cause != NONE {
+        *lines = NO_LINES;
+        return cause;
+    }
+    put_under(table, out, 0, STORE, TOP, MOST_LEVELS);
+    put_block(table, base, opening, out);
+    *lines = last_start(table);
+    NONE
+}
