@@ -1,0 +1,4 @@
+-- The tree of a table: that it has levels enough, a line for each action, and that opening and sum make closing.
+pub mod Sums
+pub mod Brought
+pub mod Levels
