@@ -2,3 +2,5 @@
 pub mod Sums
 pub mod Brought
 pub mod Levels
+pub mod Carried
+pub mod QuietEvents
