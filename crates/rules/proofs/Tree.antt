@@ -4,3 +4,4 @@ pub mod Brought
 pub mod Levels
 pub mod Carried
 pub mod QuietEvents
+pub mod Starting

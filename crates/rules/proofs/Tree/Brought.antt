@@ -2,13 +2,15 @@
 use Prim.Native.Nat.{ℕ}
 use native.Mathlib.Omega.{arith}
 use mathlib.Core.Path.{_≡_, refl, sym, _∙_}
+use mathlib.Core.Logic.{_≢_}
 use mathlib.Core.Bool.{Bool, true, false, cond}
 use mathlib.Core.List.{List}
 use lib.IntN.{ℤ, pos}
-use borrow.Author.Tests.{eqb-true}
+use borrow.Author.Tests.{eqb-true, eq-eqb, ne-eqb}
 use Rattle.rules.specs.Table.{started, parentOf, isCommitted, actions, isChildOf}
 use Rattle.rules.specs.Sound.{IsStarted}
 use Rattle.rules.specs.Tree.{children, committedChildren, addedUp}
+use Rattle.rules.proofs.Laws.Tests.{cond-same}
 use Rattle.rules.proofs.Tree.Sums.{addedUp-filter, addedUp-agree}
 
 -- what f gives for m where m is a committed child of p, and nothing otherwise
@@ -19,6 +21,16 @@ brought w f p m = cond (isChildOf w p m) (cond (isCommitted w m) (f m) (pos 0)) 
 pub all-brought : (w : List ℕ) (f : ℕ → ℤ) (p : ℕ) → addedUp f (committedChildren w p) ≡ addedUp (brought w f p) (actions w)
 unfolding committedChildren children
 all-brought w f p = addedUp-filter f (isCommitted w) (children w p) ∙ addedUp-filter _ (isChildOf w p) (actions w)
+
+module _ (w : List ℕ) (f : ℕ → ℤ) (p m : ℕ) where
+  pub child-brings : parentOf w m ≡ p → isCommitted w m ≡ true → brought w f p m ≡ f m
+  child-brings child did = rw (eq-eqb (parentOf w m) p child, did)
+
+  pub other-brings-nothing : parentOf w m ≢ p → brought w f p m ≡ pos 0
+  other-brings-nothing other = rw (ne-eqb (parentOf w m) p other)
+
+  pub uncommitted-brings-nothing : isCommitted w m ≡ false → brought w f p m ≡ pos 0
+  uncommitted-brings-nothing not-yet = rw not-yet (cond-same (isChildOf w p m) (pos 0))
 
 -- Action m brings p the same in the tables w and v where its parent and whether it committed are the same and, if it is a
 -- committed child of p, what f and g give for it.

@@ -12,9 +12,12 @@ use Rattle.rules.specs.Sound.{IsStarted}
 use Rattle.rules.specs.Tree.{committedChildren, addedUp}
 use Rattle.rules.proofs.Tree.Brought.{BringsSame, same-brought}
 
--- the pending sums of p's committed children
+-- the pending sums for charge account k, and what they make for p's committed children
+abbrev pub pendings : List ℕ → ℕ → ℕ → ℤ
+pendings w k m = pendingSum w m k
+
 abbrev pub fromChildren : List ℕ → ℕ → ℕ → ℤ
-fromChildren w k p = addedUp (λ m. pendingSum w m k) (committedChildren w p)
+fromChildren w k p = addedUp (pendings w k) (committedChildren w p)
 
 -- opening and now are amounts of charge account k in the base store
 pub record Carried (k : ℕ) (opening : ℤ) (w : List ℕ) (now : ℤ) : Type 0 where
@@ -54,7 +57,7 @@ quiet-carried {w} {v} {k} {opening} quiet was =
   where
     children-kept : (p : ℕ) → fromChildren v k p ≡ fromChildren w k p
     children-kept p =
-        same-brought w v (λ m. pendingSum w m k) (λ m. pendingSum v m k) p (quiet .starts)
+        same-brought w v (pendings w k) (pendings v k) p (quiet .starts)
         (λ m h.
         record {
           parent = quiet .parents m h;
