@@ -5,3 +5,4 @@ pub mod Levels
 pub mod Carried
 pub mod QuietEvents
 pub mod Starting
+pub mod CommitSums
