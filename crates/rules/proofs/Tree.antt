@@ -6,3 +6,5 @@ pub mod Carried
 pub mod QuietEvents
 pub mod Starting
 pub mod CommitSums
+pub mod CommitChildren
+pub mod Committing
