@@ -5,3 +5,4 @@ pub mod Clash
 pub mod Stores
 pub mod Serial
 pub mod Demand
+pub mod Tree

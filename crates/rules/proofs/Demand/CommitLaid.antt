@@ -60,7 +60,7 @@ module _
         ≡ cond (hasWritten (s .table) n k) (settledCard s n k) (cardAt (s .base) (basePlace k))
     base-card = commit-base-card proper judged under top k
 
-    base-sum-fits : IsCharge k → Written → isAmount (baseAmount (s .base) k +ℤ pendingSum (s .table) n k) ≡ true
+    pub base-sum-fits : IsCharge k → Written → isAmount (baseAmount (s .base) k +ℤ pendingSum (s .table) n k) ≡ true
     base-sum-fits is written =
         rw (commitSum-top (s .table) (s .base) n k (under ∙ top)) at (commit-sum-fits (s .table) (s .base) n fits k is written)
 
@@ -114,12 +114,12 @@ module _
         commit-write (s .table) n p (judged .own .0) (proper .sound .long) (number-few proper judged under)
         (omega arith) (parent-few proper judged under) k
 
-    parent-pending : IsCharge k → pendingWord (commitTable (s .table) n p) p k ≡ joinedPending (s .table) n p k
+    pub parent-pending : IsCharge k → pendingWord (commitTable (s .table) n p) p k ≡ joinedPending (s .table) n p k
     parent-pending =
         commit-pending (s .table) n p (judged .own .0) (proper .sound .long) (number-few proper judged under)
         (omega arith) (parent-few proper judged under) k
 
-    parent-sum-fits : IsCharge k → Written → isAmount (pendingSum (s .table) p k +ℤ pendingSum (s .table) n k) ≡ true
+    pub parent-sum-fits : IsCharge k → Written → isAmount (pendingSum (s .table) p k +ℤ pendingSum (s .table) n k) ≡ true
     parent-sum-fits is written =
         let below = commitSum-below (s .table) (s .base) n k (λ top. sub (sym under ∙ top)) in
         rw under at (rw below at (commit-sum-fits (s .table) (s .base) n fits k is written))

@@ -86,8 +86,8 @@ module _ (w : List ℕ) (n : ℕ) where
         (and-both p (ap not (notBelow-parent w n m (λ z. omega arith) (sound-climbs s m (h .1)) out)))
 
     -- what becomes aborted was live, not committed
-    committed-kept : (m : ℕ) → IsStarted w m → isCommitted (abortTable w n) m ≡ isCommitted w m
-    committed-kept m h =
+    pub abort-keeps-committed : (m : ℕ) → IsStarted w m → isCommitted (abortTable w n) m ≡ isCommitted w m
+    abort-keeps-committed m h =
         rw (abort-state m h)
         (cond-holds (λ x. eqb x committed ≡ isCommitted w m) (isAbortedBy w n m)
         (λ q. rw (eqb-true (stateOf w m) live (and-left (isLive w m) _ q)))
@@ -95,11 +95,11 @@ module _ (w : List ℕ) (n : ℕ) where
 
     count-kept : count (isCommitted (abortTable w n)) (actions (abortTable w n)) ≡ count (isCommitted w) (actions w)
     unfolding actions
-    count-kept = rw started-kept (count-agree _ _ 1 (started w) (λ m r. committed-kept m (omega arith)))
+    count-kept = rw started-kept (count-agree _ _ 1 (started w) (λ m r. abort-keeps-committed m (omega arith)))
 
     end-kept : (m : ℕ) → IsStarted w m → hasEnd (abortTable w n) m ≡ hasEnd w m
     end-kept m h =
-        ap₂ _&&_ (committed-kept m h)
+        ap₂ _&&_ (abort-keeps-committed m h)
         (writes-agree w _ m (λ k hk. abort-keeps-field m (writeField k) (omega arith) (λ z. omega arith)))
 
     reads-kept :

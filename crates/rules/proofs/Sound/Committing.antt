@@ -10,10 +10,10 @@ use borrow.Author.Tests.{eq-eqb, ne-eqb}
 use lib.Dec.{eqb}
 use lib.ListN.{length}
 use Rattle.rules.specs.Card.{accountCount, IsCharge}
-use Rattle.rules.specs.Table.{width, tableLength, mostActions, committed, word, startedField, started, counterField, counter, withCounter, parentField, parentOf, stateField, stateOf, withState, endField, endTime, withEndTime, readFields, readField, readEntry, writeField, writeEntry, entered, hasWritten, hasWrites, pendingField, pendingWord}
+use Rattle.rules.specs.Table.{width, tableLength, mostActions, committed, word, startedField, started, counterField, counter, withCounter, parentField, parentOf, stateField, stateOf, withState, endField, endTime, withEndTime, readFields, readField, readEntry, writeField, writeEntry, entered, hasWritten, hasWrites, pendingField, pendingWord, ownAddsField, ownAddsWord}
 use Rattle.rules.specs.Step.{commitTime, commitCounter, joinedRead, joinedPending, joinTable, commitTable}
 use Rattle.rules.proofs.Laws.Words.{withWord-length, word-same, word-other-row, word-other-field, word-off-field}
-use Rattle.rules.proofs.Laws.Sets.{withSets-length, withSets-other-row, withSets-other-field, withSets-read, withSets-write, withSets-pending}
+use Rattle.rules.proofs.Laws.Sets.{withSets-length, withSets-other-row, withSets-other-field, withSets-read, withSets-write, withSets-pending, withSets-own-adds}
 
 module _ (w : List ℕ) (n p : ℕ) (one : 1 ≤ n) where
   -- the table with the state, then the end time, then the counter put in; a parent's sets and sums come last
@@ -82,6 +82,19 @@ module _ (w : List ℕ) (n p : ℕ) (one : 1 ≤ n) where
 
   pub commit-keeps-sets : n ≢ p → (g : ℕ) → readFields ≤ g → g < width → word (commitTable w n p) n g ≡ word w n g
   commit-keeps-sets = commit-keeps-others n
+
+  -- nobody's own adds change, not even the parent's
+  pub commit-own-adds : (m k : ℕ) → IsCharge k → ownAddsWord (commitTable w n p) m k ≡ ownAddsWord w m k
+  unfolding commitTable joinTable
+  commit-own-adds m k charge = go (ℕ-discrete m p) (ℕ-discrete p 0)
+    where
+      before-join : ownAddsWord ended m k ≡ ownAddsWord w m k
+      before-join = ended-keeps-field m (ownAddsField k) (omega arith) (λ z. omega arith) (λ z. omega arith)
+
+      go : Dec (m ≡ p) → Dec (p ≡ 0) → ownAddsWord (commitTable w n p) m k ≡ ownAddsWord w m k
+      go (no ne) _ = commit-keeps-others m ne (ownAddsField k) (omega arith) (omega arith)
+      go (yes e) (yes top) = rw (eq-eqb p 0 top) before-join
+      go (yes e) (no sub) = rw (ne-eqb p 0 sub) (rw e (withSets-own-adds ended p _ _ _ k charge) ∙ before-join)
 
   module _ (long : length w ≡ tableLength) (few : n ≤ mostActions) where
     stated-long : length stated ≡ tableLength

@@ -64,14 +64,14 @@ module _ (w : List ℕ) (s : Sound w) (n : ℕ) (j : Committable w n) where
   fail-state : stateOf failed n ≡ aborted
   fail-state = word-same w n stateField aborted (s .long) (omega (arith, j .own, s .few)) (omega arith)
 
-  fail-keeps-field : (m g : ℕ) → g < width → g ≢ stateField → word failed m g ≡ word w m g
+  pub fail-keeps-field : (m g : ℕ) → g < width → g ≢ stateField → word failed m g ≡ word w m g
   fail-keeps-field m g h ne = word-off-field w n m stateField g aborted (omega arith) h ne
 
   fail-head : (g : ℕ) → g < width → word failed 0 g ≡ word w 0 g
   fail-head g h = word-other-row w n 0 stateField g aborted (omega arith) h (λ z. omega (arith, j .own))
 
   -- it was live, so it was not committed; now it is aborted
-  fail-committed : (m : ℕ) → 1 ≤ m → isCommitted failed m ≡ isCommitted w m
+  pub fail-committed : (m : ℕ) → 1 ≤ m → isCommitted failed m ≡ isCommitted w m
   fail-committed m pos = go (ℕ-discrete m n)
     where
       go : Dec (m ≡ n) → isCommitted failed m ≡ isCommitted w m

@@ -147,7 +147,7 @@ module _ (w : List ℕ) (p : ℕ) (s : Sound w) (room : started w < mostActions)
       go (no ne) = inl (omega (arith, start-started w p (s .long) room))
 
   -- what an old action's row holds
-  old-row : (m g : ℕ) → IsStarted w m → g < width → word (startTable w p) m g ≡ word w m g
+  pub old-row : (m g : ℕ) → IsStarted w m → g < width → word (startTable w p) m g ≡ word w m g
   old-row m g h hg = start-keeps-row w p m g hg (h .0) (λ z. omega arith)
 
   old-end : (m : ℕ) → IsStarted w m → hasEnd (startTable w p) m ≡ hasEnd w m
@@ -161,7 +161,7 @@ module _ (w : List ℕ) (p : ℕ) (s : Sound w) (room : started w < mostActions)
       (and-left (isCommitted (startTable w p) (new w p)) _ e)
 
   -- a test that holds of every old action and of the new one holds of every action
-  by-age :
+  pub by-age :
       (P : ℕ → Type 0) → ((m : ℕ) → IsStarted w m → P m) → P (new w p) → (m : ℕ) → IsStarted (startTable w p) m → P m
   by-age P old fresh m h = ⊎-elim (old m) (λ e. rw e fresh) (old-or-new m h)
 

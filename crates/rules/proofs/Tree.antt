@@ -1,0 +1,10 @@
+-- The tree of a table: that it has levels enough, a line for each action, and that opening and sum make closing.
+pub mod Sums
+pub mod Brought
+pub mod Levels
+pub mod Carried
+pub mod QuietEvents
+pub mod Starting
+pub mod CommitSums
+pub mod CommitChildren
+pub mod Committing
