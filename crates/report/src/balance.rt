@@ -8,11 +8,11 @@ ghost use Rattle.report.specs.Asked.{FiguresFit, HasRoomFor, IsReport};
 use amounts::bytes::word_at;
 use rules::store::ACCOUNTS;
 use rules::store::FIRST_CHARGE;
-use rules::tree::BALANCE_LENGTH;
-use rules::tree::BLOCK_AT;
-use rules::tree::CLOSING_AT;
-use rules::tree::OPENING_AT;
-use rules::tree::SUM_AT;
+use rules::report::BALANCE_LENGTH;
+use rules::report::BLOCK_AT;
+use rules::report::CLOSING_AT;
+use rules::report::OPENING_AT;
+use rules::report::SUM_AT;
 use stores::place::base_place;
 use totals::total::top_sum;
 

@@ -14,7 +14,7 @@ use rules::cause;
 use rules::store::ACCOUNTS;
 use rules::store::BASE_LENGTH;
 use rules::store::FIRST_CHARGE;
-use rules::tree::MOST_LEVELS;
+use rules::report::MOST_LEVELS;
 use totals::total::top_sum;
 use totals::total::total;
 

@@ -10,9 +10,9 @@ ghost use Rattle.report.specs.Asked.{FiguresFit, HasRoomFor, accountWord
 use rows::fields::own_adds;
 use rules::store::ACCOUNTS;
 use rules::store::FIRST_CHARGE;
-use rules::tree::FIGURES;
-use rules::tree::MOST_LEVELS;
-use rules::tree::TOTAL_AT;
+use rules::report::FIGURES;
+use rules::report::MOST_LEVELS;
+use rules::report::TOTAL_AT;
 use totals::total::total;
 
 // Those for one account: own adds, then total.

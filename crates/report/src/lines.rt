@@ -14,10 +14,10 @@ use crate::figures::put_figures;
 use rows::fields::last_start;
 use rows::fields::parent;
 use rows::fields::state;
-use rules::tree::FIGURES_AT;
-use rules::tree::LINE_LENGTH;
-use rules::tree::NUMBER_AT;
-use rules::tree::STATE_AT;
+use rules::report::FIGURES_AT;
+use rules::report::LINE_LENGTH;
+use rules::report::NUMBER_AT;
+use rules::report::STATE_AT;
 
 fn is_child(table: &[u64], p: u64, m: u64) -> bool
     requires { ⌜ HasRow (now table) m ⌝ }

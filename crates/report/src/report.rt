@@ -7,10 +7,10 @@ use crate::lines::put_under;
 use rows::fields::last_start;
 use rules::cause::NONE;
 use rules::table::STORE;
-use rules::tree::MOST_LEVELS;
-use rules::tree::NO_LINES;
-use rules::tree::REPORT_LENGTH;
-use rules::tree::TOP;
+use rules::report::MOST_LEVELS;
+use rules::report::NO_LINES;
+use rules::report::REPORT_LENGTH;
+use rules::report::TOP;
 
 // Back comes the cause, and in `lines` how many lines there are: one for each action.
 pub fn report(

@@ -6,9 +6,9 @@ pub mod cause;
 pub mod day;
 pub mod event;
 pub mod kind;
+pub mod report;
 pub mod store;
 pub mod table;
-pub mod tree;
 
 // RULES 5: an event's answer. Its word and its numbers are listed by the definition `said` of specs/Answer.antt, and every
 // promise goes through that definition.

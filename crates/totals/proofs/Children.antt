@@ -1,13 +1,16 @@
 -- The committed children of a parent from a number on, taken from the front. Assumes nothing.
 use Prim.Native.Nat.{ℕ, _+_, _-_, _≤_, _<_}
 use native.Mathlib.Omega.{arith}
-use mathlib.Core.Path.{_≡_, refl, ap, _∙_}
-use mathlib.Core.Bool.{Bool, true, false, cond, _&&_}
+use mathlib.Core.Path.{_≡_, refl, sym, ap, _∙_}
+use mathlib.Core.Bool.{Bool, true, false, cond, not, _&&_, _||_}
 use mathlib.Core.List.{List, [], _∷_}
-use Rattle.rules.specs.Range.{upFrom, filter}
-use Rattle.rules.specs.Table.{started, isCommitted, actions, isChildOf}
+use borrow.Author.Tests.{eqb-true}
+use Rattle.rules.specs.Range.{upFrom, all, filter}
+use Rattle.rules.specs.Table.{started, parentOf, isCommitted, actions, isChildOf}
+use Rattle.rules.specs.Sound.{IsStarted}
 use Rattle.rules.specs.Tree.{children, committedChildren}
-use Rattle.rules.proofs.Laws.Ranges.{left-next, left-done}
+use Rattle.rules.proofs.Laws.Tests.{and-left, implies}
+use Rattle.rules.proofs.Laws.Ranges.{all-of, left-next, left-done}
 use Rattle.totals.specs.Total.{isCommittedChildOf, childrenFrom}
 
 -- what is left by one test of what the other leaves is left by both
@@ -21,7 +24,27 @@ filter-twice f g (x ∷ l) = by-first (f x) (filter f l) (filter-twice f g l)
     by-first true ys same = ap (λ xs. cond (g x) (x ∷ xs) xs) same
     by-first false ys same = same
 
+-- what is asked of all that one test leaves is asked of all, where that test holds
+all-filtered : (f g : ℕ → Bool) (l : List ℕ) → all f (filter g l) ≡ all (λ x. not (g x) || f x) l
+unfolding all filter
+all-filtered f g [] = refl
+all-filtered f g (x ∷ l) = by-first (g x) (all-filtered f g l)
+  where
+    by-first : (b : Bool) {c : Bool} → all f (filter g l) ≡ c → all f (cond b (x ∷ filter g l) (filter g l)) ≡ ((not b || f x) && c)
+    by-first true same = ap (λ c. f x && c) same
+    by-first false same = same
+
 module _ (w : List ℕ) (p : ℕ) where
+  -- f holds of p's committed children where it holds of every child of p
+  pub all-children : (f : ℕ → Bool) → ((m : ℕ) → IsStarted w m → parentOf w m ≡ p → f m ≡ true) → all f (committedChildren w p) ≡ true
+  unfolding committedChildren children actions
+  all-children f holds =
+      let is = isCommittedChildOf w p in
+      ap (all f) (sym (filter-twice (isChildOf w p) (isCommitted w) (upFrom 1 (started w))))
+      ∙ all-filtered f is (upFrom 1 (started w))
+      ∙ all-of _ 1 (started w)
+      (λ m h. implies (is m) (f m) (λ child. holds m (omega arith) (eqb-true _ p (and-left (isChildOf w p m) _ child))))
+
   pub children-from-first : childrenFrom w p 1 ≡ committedChildren w p
   unfolding childrenFrom committedChildren children actions
   children-from-first =

@@ -1,3 +1,3 @@
 -- What is proved of totals as the functions make them.
-mod Children
-mod Gathering
+pub mod Children
+pub mod Gathering

@@ -15,7 +15,7 @@ use rows::fields::own_adds;
 use rows::fields::parent;
 use rules::table::NO_SUM;
 use rules::table::STORE;
-use rules::tree::MOST_LEVELS;
+use rules::report::MOST_LEVELS;
 
 // The totals of some children, added up.
 struct Gathered {

@@ -1,46 +1,47 @@
+-- `put_account` puts the own adds and the total, whose words stand for them. Assumes nothing.
+use native.Mathlib.Numerals.{add-one}
+use native.Mathlib.Omega.{arith}
 use borrow.Author.Needs.{needs}
+use lib.ListN.{length-set}
+use Rattle.report.proofs.Fitting.{own-word, total-word}
 use Rattle.report.proofs.figures.put_account.Statement.{statement}
 use Rattle.report.proofs.figures.put_account.Tie as tie
-use Rattle.report.proofs.figures.put_account.Reads as reads
-use Rattle.report.proofs.figures.put_account.Lts as lts
-use Rattle.rows.proofs.fields.own_adds.Reads as own-adds-reads
-use Rattle.totals.proofs.total.total.Reads as total-reads
 
--- src/figures.rt:26:18
 own-adds-requires : tie.Need-own-adds-requires
 own-adds-requires c κs = search needs
 
--- src/figures.rt:26:5
 mul-report : tie.Need-mul-report
 mul-report c = search needs
 
--- src/figures.rt:26:5
 slice-write-report : tie.Need-slice-write-report
 slice-write-report c = search needs
 
--- src/figures.rt:27:29
 total-requires : tie.Need-total-requires
 total-requires c κs = search needs
 
--- src/figures.rt:27:12
 add-report : tie.Need-add-report
 add-report c = search needs
 
--- src/figures.rt:27:5
 mul-report-2 : tie.Need-mul-report-2
 mul-report-2 c = search needs
 
--- src/figures.rt:27:5
 slice-write-report-2 : tie.Need-slice-write-report-2
-slice-write-report-2 c = ?
+slice-write-report-2 c = simp length-set (omega arith)
 
--- src/figures.rt:19:1
 same-length : tie.Need-same-length
-same-length c = search needs
+same-length c = simp length-set
 
--- src/figures.rt:19:1
 returns : tie.Need-returns
-returns c = ?
+returns c =
+    let start = c .before .before .before .before in
+    let args = start .args in
+    rw (
+      add-one (args .at),
+      own-word (args .table .now) (args .n) (args .k) (omega (arith, c .before .own-adds .ensures)),
+      ← total-word (start .pre .0) (args .n) (args .k) (start .pre .1 .0 .0) (start .pre .1 .0 .1),
+      ← c .before .own-adds .ensures,
+      ← c .total .ensures,
+    )
 
 pub put-account-spec : {M : Type 1} → statement M
 put-account-spec =

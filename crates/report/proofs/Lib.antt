@@ -1,0 +1,3 @@
+-- What is proved of reports as the functions make them.
+mod Words
+mod Fitting
