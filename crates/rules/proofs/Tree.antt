@@ -8,3 +8,6 @@ pub mod Starting
 pub mod CommitSums
 pub mod CommitChildren
 pub mod Committing
+pub mod Kept
+pub mod NotRefused
+pub mod Theorem

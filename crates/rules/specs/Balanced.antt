@@ -1,10 +1,11 @@
 -- RULES 12.7: opening and sum make closing, for every list of events. Assumes nothing.
 use Prim.Native.Nat.{ℕ}
 use mathlib.Core.Path.{_≡_}
+use mathlib.Core.Bool.{true}
 use mathlib.Core.List.{List}
 use lib.IntN.{_+ℤ_}
 use Rattle.rules.specs.Card.{IsCharge}
-use Rattle.rules.specs.Amount.{baseAmount}
+use Rattle.rules.specs.Amount.{isAmount, baseAmount}
 use Rattle.rules.specs.Table.{pendingSum}
 use Rattle.rules.specs.Sound.{IsStarted}
 use Rattle.rules.specs.Event.{Event}
@@ -28,6 +29,8 @@ pub record Balanced (base shadow : List ℕ) (es : List Event) : Type 0 where
       (k : ℕ) → IsCharge k →
       baseAmount (ledgerAfter base shadow es .base) k
       ≡ baseAmount base k +ℤ topSum (ledgerAfter base shadow es .table) k
-  -- the report that has base for its opening store is not refused
+  -- The report that has base for its opening store is not refused, where each sum of its last block is an amount. A list can be
+  -- so long that one is none while every base amount is; no list of a day file's length is (proofs/Tree/Theorem.antt).
   pub reported :
-      let s = ledgerAfter base shadow es in treeCause (s .table) (s .base) (s .shadow) base ≡ 0
+      let s = ledgerAfter base shadow es in
+      ((k : ℕ) → IsCharge k → isAmount (topSum (s .table) k) ≡ true) → treeCause (s .table) (s .base) (s .shadow) base ≡ 0

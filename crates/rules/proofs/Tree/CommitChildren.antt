@@ -44,15 +44,15 @@ module _
   others-bring : (q m : ℕ) → IsStarted w m → m ≢ n → brought v (pendings v k) q m ≡ brought w (pendings w k) q m
   others-bring q m h other =
       brings-same w v (pendings w k) (pendings v k) q m (
-        record {
-          parent = commit-parent w n p (judged .own .0) m;
-          state =
-              ap (λ x. eqb x committed) (commit-keeps-row w n p (judged .own .0) m stateField (omega arith) (h .0) other (inr (omega arith)));
-          sum =
-              λ child did.
-              ap amountOf
-              (commit-keeps-others w n p (judged .own .0) m (committed-no-parent m h did) (pendingField k) (omega arith) (omega arith));
-        }
+      record {
+        parent = commit-parent w n p (judged .own .0) m;
+        state =
+            ap (λ x. eqb x committed) (commit-keeps-row w n p (judged .own .0) m stateField (omega arith) (h .0) other (inr (omega arith)));
+        sum =
+            λ child did.
+            ap amountOf
+            (commit-keeps-others w n p (judged .own .0) m (committed-no-parent m h did) (pendingField k) (omega arith) (omega arith));
+      }
       )
 
   -- it brought nothing before

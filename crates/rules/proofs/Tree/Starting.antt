@@ -29,11 +29,11 @@ module _ {w : List ℕ} (s : Sound w) (p k : ℕ) (charge : IsCharge k) (permitt
   brought-kept : (q m : ℕ) → IsStarted w m → brought v (pendings v k) q m ≡ brought w (pendings w k) q m
   brought-kept q m h =
       brings-same w v (pendings w k) (pendings v k) q m (
-        record {
-          parent = old-kept m parentField h (omega arith);
-          state = ap (λ x. eqb x committed) (old-kept m stateField h (omega arith));
-          sum = λ child did. ap amountOf (old-kept m (pendingField k) h (omega arith));
-        }
+      record {
+        parent = old-kept m parentField h (omega arith);
+        state = ap (λ x. eqb x committed) (old-kept m stateField h (omega arith));
+        sum = λ child did. ap amountOf (old-kept m (pendingField k) h (omega arith));
+      }
       )
 
   new-brings : (q : ℕ) → brought v (pendings v k) q (1 + started w) ≡ pos 0
