@@ -11,3 +11,5 @@ pub mod Committing
 pub mod Kept
 pub mod NotRefused
 pub mod Theorem
+pub mod Numbers
+pub mod Held
