@@ -13,3 +13,4 @@ pub mod NotRefused
 pub mod Theorem
 pub mod Numbers
 pub mod Held
+pub mod Lines
