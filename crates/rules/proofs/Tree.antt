@@ -8,6 +8,8 @@ pub mod Starting
 pub mod CommitSums
 pub mod CommitChildren
 pub mod Committing
+pub mod Adding
+pub mod ByChange
 pub mod Kept
 pub mod NotRefused
 pub mod Theorem

@@ -2,11 +2,11 @@
 -- sums of its committed children, and the base amount is the opening amount and those of the committed topactions. Assumes nothing.
 use Prim.Native.Nat.{ℕ}
 use native.Mathlib.Omega.{arith}
-use mathlib.Core.Path.{_≡_, sym, ap, ap₂, _∙_}
+use mathlib.Core.Path.{_≡_, refl, sym, ap, ap₂, _∙_}
 use mathlib.Core.Bool.{true}
 use mathlib.Core.List.{List}
 use lib.IntN.{ℤ, pos, _+ℤ_, +ℤ-idr, +ℤ-assoc, +ℤ-comm}
-use Rattle.rules.specs.Amount.{amountOf}
+use Rattle.rules.specs.Amount.{amountOf, isAddable}
 use Rattle.rules.specs.Table.{started, parentOf, pendingWord, pendingSum, ownAddsWord, ownAdds, isCommitted}
 use Rattle.rules.specs.Sound.{IsStarted}
 use Rattle.rules.specs.Tree.{committedChildren, addedUp}
@@ -30,15 +30,24 @@ add-behind a b z = +ℤ-assoc a z b ∙ ap (λ y. a +ℤ y) (+ℤ-comm z b) ∙ 
 
 -- ---- events that start and commit nothing
 
--- action m's pending sum and its own adds have grown by the same
-abbrev pub GrowAlike : List ℕ → List ℕ → ℕ → ℕ → Type 0
-GrowAlike w v k m = (z : ℤ) × (pendingSum v m k ≡ pendingSum w m k +ℤ z) × (ownAdds v m k ≡ ownAdds w m k +ℤ z)
+-- action m's pending sum and its own adds have grown by the same, which an event may add
+pub record GrowAlike (w v : List ℕ) (k m : ℕ) : Type 0 where
+  pub by : ℤ
+  pub addable : isAddable by ≡ true
+  pub pending : pendingSum v m k ≡ pendingSum w m k +ℤ by
+  pub own : ownAdds v m k ≡ ownAdds w m k +ℤ by
 
 -- so they have where neither word changed
 pub grow-nothing :
     (w v : List ℕ) (k m : ℕ) → pendingWord v m k ≡ pendingWord w m k → ownAddsWord v m k ≡ ownAddsWord w m k → GrowAlike w v k m
+unfolding isAddable
 grow-nothing w v k m pending own =
-    (pos 0, ap amountOf pending ∙ sym (+ℤ-idr (pendingSum w m k)), ap amountOf own ∙ sym (+ℤ-idr (ownAdds w m k)))
+    record {
+      by = pos 0;
+      addable = refl;
+      pending = ap amountOf pending ∙ sym (+ℤ-idr (pendingSum w m k));
+      own = ap amountOf own ∙ sym (+ℤ-idr (ownAdds w m k));
+    }
 
 -- the table v after w: the same actions, parents and committed actions, and no sum of one that has committed changes
 pub record Quiet (w v : List ℕ) (k : ℕ) : Type 0 where
@@ -67,6 +76,6 @@ quiet-carried {w} {v} {k} {opening} quiet was =
 
     carries : (n : ℕ) → IsStarted w n → pendingSum v n k ≡ ownAdds v n k +ℤ fromChildren v k n
     carries n h =
-        let (z, pending, own) = quiet .grown n h in
-        pending ∙ ap (λ y. y +ℤ z) (was .sums n h)
-        ∙ sym (ap₂ _+ℤ_ own (children-kept n) ∙ add-behind (ownAdds w n k) (fromChildren w k n) z)
+        let grown = quiet .grown n h in
+        grown .pending ∙ ap (λ y. y +ℤ grown .by) (was .sums n h)
+        ∙ sym (ap₂ _+ℤ_ (grown .own) (children-kept n) ∙ add-behind (ownAdds w n k) (fromChildren w k n) (grown .by))
