@@ -11,8 +11,11 @@ pub mod Committing
 pub mod Adding
 pub mod ByChange
 pub mod Kept
-pub mod NotRefused
-pub mod Theorem
 pub mod Numbers
 pub mod Held
 pub mod Lines
+pub mod Magnitudes
+pub mod OwnAdds
+pub mod FewEvents
+pub mod NotRefused
+pub mod Theorem

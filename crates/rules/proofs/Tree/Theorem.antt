@@ -1,5 +1,5 @@
 -- RULES 12.7: opening and sum make closing. Assumes nothing.
-use Prim.Native.Nat.{ℕ}
+use Prim.Native.Nat.{ℕ, _≤_}
 use mathlib.Core.Path.{_≡_, refl, sym, ap, _∙_}
 use mathlib.Core.Bool.{true}
 use mathlib.Core.List.{List}
@@ -10,8 +10,9 @@ use Rattle.rules.specs.Amount.{isAmount, baseAmount}
 use Rattle.rules.specs.Table.{pendingWord, pendingSum}
 use Rattle.rules.specs.Sound.{IsStarted}
 use Rattle.rules.specs.Event.{Event}
+use Rattle.rules.specs.Encoding.{mostEvents}
 use Rattle.rules.specs.Ledger.{Ledger}
-use Rattle.rules.specs.Tree.{totalOf, topSum}
+use Rattle.rules.specs.Tree.{totalOf, topSum, treeCause}
 use Rattle.rules.specs.Serial.Demand.{newOver}
 use Rattle.rules.specs.Balanced.{ledgerAfter, Balanced}
 use Rattle.rules.proofs.Laws.Amounts.{amount-of-any}
@@ -20,6 +21,7 @@ use Rattle.rules.proofs.Tree.Brought.{BringsSame, same-brought}
 use Rattle.rules.proofs.Tree.Levels.{total-only}
 use Rattle.rules.proofs.Tree.Carried.{pendings, fromChildren}
 use Rattle.rules.proofs.Tree.Kept.{CarriedIn, new-carried, run-carried}
+use Rattle.rules.proofs.Tree.FewEvents.{few-events-fit}
 use Rattle.rules.proofs.Tree.NotRefused.{not-refused}
 
 -- ---- a ledger that carries the sums
@@ -62,3 +64,7 @@ module _ (base shadow : List ℕ) (baseFits : length base ≡ baseLength) (shado
             not-refused after base proper-after baseFits
             (λ n k known charge. rw (← totals n k known charge) (amount-of-any (pendingWord (after .table) n k)));
       }
+
+  -- RULES 12.7: no day file has so many events that the report is refused
+  pub reported-of-few : length es ≤ mostEvents → treeCause (after .table) (after .base) (after .shadow) base ≡ 0
+  reported-of-few few = balanced .reported (few-events-fit base shadow es few)
