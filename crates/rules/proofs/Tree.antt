@@ -1,14 +1,15 @@
--- The tree of a table: that it has levels enough, a line for each action, and that opening and sum make closing.
+-- The tree of a table: levels enough, a line for each action, and that opening and sum make closing.
 pub mod Sums
 pub mod Brought
 pub mod Levels
 pub mod Carried
+pub mod Quiet
 pub mod QuietEvents
+pub mod Adding
 pub mod Starting
 pub mod CommitSums
 pub mod CommitChildren
 pub mod Committing
-pub mod Adding
 pub mod ByChange
 pub mod Kept
 pub mod Numbers

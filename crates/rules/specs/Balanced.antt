@@ -29,8 +29,9 @@ pub record Balanced (base shadow : List ℕ) (es : List Event) : Type 0 where
       (k : ℕ) → IsCharge k →
       baseAmount (ledgerAfter base shadow es .base) k
       ≡ baseAmount base k +ℤ topSum (ledgerAfter base shadow es .table) k
-  -- The report that has base for its opening store is not refused, where each sum of its last block is an amount. A list can be
-  -- so long that one is none while every base amount is; no list of a day file's length is (proofs/Tree/Theorem.antt).
+  -- The report that has base for its opening store is not refused, if the sums of its last block are amounts. They are after as
+  -- many events as a day file may have (proofs/Tree/Theorem.antt). After far more, such a sum can be outside 64 signed bits
+  -- though every base amount is inside.
   pub reported :
       let s = ledgerAfter base shadow es in
       ((k : ℕ) → IsCharge k → isAmount (topSum (s .table) k) ≡ true) → treeCause (s .table) (s .base) (s .shadow) base ≡ 0

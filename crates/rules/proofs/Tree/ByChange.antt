@@ -1,7 +1,7 @@
 -- What an event does to the sums of a charge account: it changes nothing but what an action adds, or it starts an action, or it
 -- commits one. Assumes nothing.
 use Prim.Native.Nat.{ℕ, _<_}
-use mathlib.Core.Path.{_≡_, refl}
+use mathlib.Core.Path.{_≡_}
 use mathlib.Core.Bool.{false}
 use mathlib.Core.List.{List}
 use Rattle.rules.specs.declared.Found.{Found}
@@ -12,9 +12,9 @@ use Rattle.rules.specs.Sound.{Sound}
 use Rattle.rules.specs.Event.{Event}
 use Rattle.rules.specs.Ledger.{Ledger, ledgerOf, withTable}
 use Rattle.rules.specs.Cause.{isCommitOutside}
-use Rattle.rules.specs.Step.{Outcome, startTable, start, read, write, add, committedUnder, judged, abort, step}
+use Rattle.rules.specs.Step.{startTable, start, read, write, add, committedUnder, judged, abort, step}
 use Rattle.rules.proofs.Laws.Permitted.{Startable, Touchable, Committable, AddFits, step-by-kind}
-use Rattle.rules.proofs.Tree.Carried.{Quiet}
+use Rattle.rules.proofs.Tree.Quiet.{Quiet}
 use Rattle.rules.proofs.Tree.QuietEvents.{nothing-quiet, read-quiet, write-quiet, fail-quiet, abort-quiet}
 use Rattle.rules.proofs.Tree.Adding.{add-quiet}
 
@@ -41,7 +41,8 @@ module _
   aborts = quiet _ (s .shadow) (abort-quiet sound n k charge)
 
   judges :
-      (Committable (s .table) n → isCommitOutside (s .table) (s .base) n Nothing ≡ false → P (committedUnder s n (parentOf (s .table) n))) →
+      (Committable (s .table) n → isCommitOutside (s .table) (s .base) n Nothing ≡ false →
+      P (committedUnder s n (parentOf (s .table) n))) →
       Committable (s .table) n → (f : Found) → isCommitOutside (s .table) (s .base) n f ≡ false → P (judged s n f .after)
   unfolding judged
   judges commits j Nothing fits = commits j fits

@@ -17,7 +17,7 @@ use Rattle.rules.specs.Balanced.{ledgerAfter}
 use Rattle.rules.proofs.Laws.Amounts.{amount-holds}
 use Rattle.rules.proofs.Sound.Kept.{new-sound, run-keeps-sound}
 use Rattle.rules.proofs.Tree.Numbers.{sumOf-at-most}
-use Rattle.rules.proofs.Tree.Magnitudes.{magnitude, ownMagnitude, topSum-magnitude}
+use Rattle.rules.proofs.Tree.Magnitudes.{ownMagnitude, topSum-magnitude}
 use Rattle.rules.proofs.Tree.OwnAdds.{OwnAtMost, new-at-most, run-at-most}
 
 -- what each action's own adds are at most

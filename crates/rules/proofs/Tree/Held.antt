@@ -1,14 +1,14 @@
--- Every action is below the store exactly once: what its children and all below them hold is what all actions hold. Assumes nothing.
+-- Every action is below the store, once: what the store's children and all below them hold is what all actions hold.
+-- Assumes nothing.
 use Prim.Native.Nat.{ℕ, zero, suc, _+_, _<_}
 use native.Mathlib.Omega.{arith}
-use mathlib.Core.Path.{_≡_, refl, sym, ap, _∙_}
+use mathlib.Core.Path.{_≡_, refl, ap, _∙_}
 use mathlib.Core.Bool.{Bool, true, false, cond}
 use mathlib.Core.List.{List}
 use borrow.Author.Tests.{eqb-true}
 use Rattle.rules.specs.Range.{upFrom}
 use Rattle.rules.specs.Table.{mostActions, started, parentOf, actions, isChildOf}
 use Rattle.rules.specs.Sound.{IsStarted, Sound}
-use Rattle.rules.proofs.Laws.Tests.{cond-holds}
 use Rattle.rules.proofs.Laws.Walking.{parent-known}
 use Rattle.rules.proofs.Tree.Numbers.{sumOf, sumOf-agree, sumOf-plus, sumOf-swap, sumOf-there}
 use Rattle.rules.proofs.Tree.Levels.{levels-follow}
@@ -41,13 +41,20 @@ module _ {w : List ℕ} (s : Sound w) where
       ∙ sumOf-agree _ _ 1 (started w)
       (λ m h. sumOf-there (parentOf w m) (f m) 0 (suc (started w)) (omega (arith, parent-known s m (omega arith))))
 
-  pub held-by-all : (own : ℕ → ℕ) → ofChildren w (held own w mostActions) 0 ≡ sumOf own (actions w)
-  unfolding held actions
-  held-by-all own =
-      let all = held own w mostActions in
-      let each : sumOf all (actions w) ≡ sumOf own (actions w) + sumOf (ofChildren w all) (actions w) =
-      sumOf-agree _ _ 1 (started w) (λ m h.
-      levels-follow s (λ f n. own n + ofChildren w f n) (λ f g n same. ap (λ z. own n + z) (children-later f g n same))
-      (held own w) (λ levels n. refl) mostActions m (omega arith) (omega arith))
-      ∙ sumOf-plus own (ofChildren w all) (actions w) in
-      omega (arith, each, children-of-all all)
+  module _ (own : ℕ → ℕ) where
+    abbrev all-held : ℕ → ℕ
+    all-held = held own w mostActions
+
+    held-follows : (n : ℕ) → IsStarted w n → all-held n ≡ own n + ofChildren w all-held n
+    unfolding held
+    held-follows n known =
+        levels-follow s (λ f m. own m + ofChildren w f m) (λ f g m same. ap (λ z. own m + z) (children-later f g m same))
+        (held own w) (λ levels m. refl) mostActions n known (omega arith)
+
+    all-hold : sumOf all-held (actions w) ≡ sumOf own (actions w) + sumOf (ofChildren w all-held) (actions w)
+    unfolding actions
+    all-hold =
+        sumOf-agree _ _ 1 (started w) (λ n h. held-follows n (omega arith)) ∙ sumOf-plus own (ofChildren w all-held) (actions w)
+
+    pub held-by-all : ofChildren w (held own w mostActions) 0 ≡ sumOf own (actions w)
+    held-by-all = omega (arith, all-hold, children-of-all all-held)

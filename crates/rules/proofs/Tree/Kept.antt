@@ -15,7 +15,8 @@ use Rattle.rules.specs.Run.{run}
 use Rattle.rules.specs.Tree.{children, committedChildren, addedUp}
 use Rattle.rules.specs.Serial.Demand.{newOver}
 use Rattle.rules.proofs.Demand.Proper.{Proper, step-keeps-proper}
-use Rattle.rules.proofs.Tree.Carried.{Carried, quiet-carried}
+use Rattle.rules.proofs.Tree.Carried.{Carried}
+use Rattle.rules.proofs.Tree.Quiet.{quiet-carried}
 use Rattle.rules.proofs.Tree.ByChange.{step-by-change}
 use Rattle.rules.proofs.Tree.Starting.{start-carried}
 use Rattle.rules.proofs.Tree.Committing.{commit-carried}

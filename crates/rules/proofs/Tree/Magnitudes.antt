@@ -1,7 +1,6 @@
 -- However the adds lie in the tree, the sum of the committed topactions is no larger than all own adds together. Assumes nothing.
 use Prim.Native.Nat.{ℕ, zero, suc, _+_, _≤_}
 use native.Mathlib.Omega.{arith}
-use mathlib.Core.Path.{_≡_, sym}
 use mathlib.Core.Bool.{Bool, true, false, cond}
 use mathlib.Core.List.{List, [], _∷_}
 use lib.IntN.{ℤ, pos, _+ℤ_}
@@ -20,15 +19,14 @@ magnitude z = up z + dn z
 pub sum-magnitude : (a b : ℤ) → magnitude (a +ℤ b) ≤ magnitude a + magnitude b
 sum-magnitude a b = omega (arith, sum-parts a b, up-or-dn (a +ℤ b))
 
-module _ (f : ℕ → ℤ) (h : ℕ → ℕ) (each : (m : ℕ) → magnitude (f m) ≤ h m) where
-  -- added up
-  all-magnitude : (l : List ℕ) → magnitude (addedUp f l) ≤ sumOf h l
-  unfolding addedUp sumOf up dn
-  all-magnitude [] = omega arith
-  all-magnitude (x ∷ xs) = omega (arith, sum-magnitude (f x) (addedUp f xs), each x, all-magnitude xs)
+all-magnitude :
+    (f : ℕ → ℤ) (h : ℕ → ℕ) → ((m : ℕ) → magnitude (f m) ≤ h m) → (l : List ℕ) → magnitude (addedUp f l) ≤ sumOf h l
+unfolding addedUp sumOf up dn
+all-magnitude f h each [] = omega arith
+all-magnitude f h each (x ∷ xs) = omega (arith, sum-magnitude (f x) (addedUp f xs), each x, all-magnitude f h each xs)
 
 module _ (w : List ℕ) where
-  -- brought by committed children: by children at least
+  -- what committed children bring is no larger than what all children hold
   children-magnitude :
       (f : ℕ → ℤ) (h : ℕ → ℕ) → ((m : ℕ) → magnitude (f m) ≤ h m) →
       (p : ℕ) → magnitude (addedUp f (committedChildren w p)) ≤ ofChildren w h p
@@ -42,7 +40,7 @@ module _ (w : List ℕ) where
       chosen true false z le = omega arith
       chosen false c z le = omega arith
 
-  -- the magnitude of each action's own adds
+  -- of each action's own adds
   abbrev pub ownMagnitude : ℕ → ℕ → ℕ
   ownMagnitude k m = magnitude (ownAdds w m k)
 

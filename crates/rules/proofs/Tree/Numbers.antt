@@ -36,7 +36,8 @@ pub sumOf-swap :
     (f : ℕ → ℕ → ℕ) (ps ms : List ℕ) → sumOf (λ p. sumOf (f p) ms) ps ≡ sumOf (λ m. sumOf (λ p. f p m) ps) ms
 unfolding sumOf
 sumOf-swap f [] ms = sym (sumOf-nothing (λ m. 0) (λ m. refl) ms)
-sumOf-swap f (p ∷ ps) ms = ap (λ z. sumOf (f p) ms + z) (sumOf-swap f ps ms) ∙ sym (sumOf-plus (f p) (λ m. sumOf (λ q. f q m) ps) ms)
+sumOf-swap f (p ∷ ps) ms =
+    ap (λ z. sumOf (f p) ms + z) (sumOf-swap f ps ms) ∙ sym (sumOf-plus (f p) (λ m. sumOf (λ q. f q m) ps) ms)
 
 -- y where the number is x, and nothing elsewhere
 pub sumOf-there : (x y a n : ℕ) → Within a n x → sumOf (λ p. cond (eqb x p) y 0) (upFrom a n) ≡ y

@@ -1,12 +1,11 @@
 -- Own adds grow by no more at each event than an event may add. Assumes nothing.
 use Prim.Native.Nat.{ℕ, _+_, _*_, _≤_}
 use native.Mathlib.Omega.{arith}
-use mathlib.Core.Path.{_≡_, refl, ap}
 use mathlib.Core.List.{List, [], _∷_}
 use lib.ListN.{length}
 use Rattle.rules.specs.Card.{IsCharge}
-use Rattle.rules.specs.Amount.{amountOf, mostAdded}
-use Rattle.rules.specs.Table.{parentOf, ownAddsField, ownAdds, newTable, word}
+use Rattle.rules.specs.Amount.{mostAdded}
+use Rattle.rules.specs.Table.{word, newTable, ownAddsField, ownAdds}
 use Rattle.rules.specs.Sound.{IsStarted, Sound}
 use Rattle.rules.specs.Event.{Event}
 use Rattle.rules.specs.Ledger.{Ledger}
@@ -18,7 +17,7 @@ use Rattle.rules.proofs.Laws.Permitted.{Startable, Committable}
 use Rattle.rules.proofs.Sound.Starting.{start-own-adds, old-row, by-age}
 use Rattle.rules.proofs.Sound.Committing.{commit-started, commit-own-adds}
 use Rattle.rules.proofs.Sound.Kept.{step-keeps-sound}
-use Rattle.rules.proofs.Tree.Carried.{GrowAlike, Quiet}
+use Rattle.rules.proofs.Tree.Quiet.{Quiet}
 use Rattle.rules.proofs.Tree.ByChange.{step-by-change}
 use Rattle.rules.proofs.Tree.Magnitudes.{magnitude, sum-magnitude}
 

@@ -1,27 +1,19 @@
 -- A read, a write, a failed commit and an abort start and commit nothing, and change no sum. Assumes nothing.
 use Prim.Native.Nat.{ℕ, _<_}
 use native.Mathlib.Omega.{arith}
-use native.Mathlib.Decide.{ℕ-discrete}
 use mathlib.Core.Path.{_≡_, refl, ap}
-use mathlib.Core.Logic.{_≢_}
-use mathlib.Core.Bool.{true}
 use mathlib.Core.List.{List}
 use lib.Dec.{eqb}
-use lib.IntN.{ℤ}
 use Rattle.rules.specs.Card.{firstCharge, IsCharge}
-use Rattle.rules.specs.Amount.{amountOf, amountIn}
 use Rattle.rules.specs.Table.{committed, aborted, withState, startedField, started, parentField, parentOf, stateField, pendingField, pendingWord, ownAddsField, ownAddsWord, isCommitted}
 use Rattle.rules.specs.Sound.{IsStarted, Sound}
-use Rattle.rules.specs.Step.{readTable, writeTable, addTable, abortTable}
-use Rattle.rules.proofs.Laws.Amounts.{amount-read-back}
-use Rattle.rules.proofs.Laws.Permitted.{Touchable, Committable, AddFits}
-use Rattle.rules.proofs.Sound.TableChanges.{live-uncommitted}
+use Rattle.rules.specs.Step.{readTable, writeTable, abortTable}
+use Rattle.rules.proofs.Laws.Permitted.{Touchable, Committable}
 use Rattle.rules.proofs.Sound.Reading.{read-keeps-field}
 use Rattle.rules.proofs.Sound.Writing.{write-keeps-field}
-use Rattle.rules.proofs.Sound.Adding.{add-keeps-field, add-keeps-row, add-pending, add-own-adds, add-keeps-own-adds}
 use Rattle.rules.proofs.Sound.Judging.{fail-keeps-field, fail-committed}
 use Rattle.rules.proofs.Sound.Aborting.{abort-keeps-field, abort-keeps-committed}
-use Rattle.rules.proofs.Tree.Carried.{GrowAlike, grow-nothing, Quiet}
+use Rattle.rules.proofs.Tree.Quiet.{grow-nothing, Quiet}
 
 -- where no sum changes at all
 calm :

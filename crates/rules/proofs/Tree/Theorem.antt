@@ -1,12 +1,11 @@
 -- RULES 12.7: opening and sum make closing. Assumes nothing.
 use Prim.Native.Nat.{ℕ, _≤_}
-use mathlib.Core.Path.{_≡_, refl, sym, ap, _∙_}
-use mathlib.Core.Bool.{true}
+use mathlib.Core.Path.{_≡_, sym, ap, _∙_}
 use mathlib.Core.List.{List}
 use lib.IntN.{_+ℤ_}
 use lib.ListN.{length}
 use Rattle.rules.specs.Card.{baseLength, shadowLength, IsCharge}
-use Rattle.rules.specs.Amount.{isAmount, baseAmount}
+use Rattle.rules.specs.Amount.{baseAmount}
 use Rattle.rules.specs.Table.{pendingWord, pendingSum}
 use Rattle.rules.specs.Sound.{IsStarted}
 use Rattle.rules.specs.Event.{Event}
@@ -17,7 +16,7 @@ use Rattle.rules.specs.Serial.Demand.{newOver}
 use Rattle.rules.specs.Balanced.{ledgerAfter, Balanced}
 use Rattle.rules.proofs.Laws.Amounts.{amount-of-any}
 use Rattle.rules.proofs.Demand.Proper.{Proper, new-proper, run-keeps-proper}
-use Rattle.rules.proofs.Tree.Brought.{BringsSame, same-brought}
+use Rattle.rules.proofs.Tree.Brought.{committed-agree}
 use Rattle.rules.proofs.Tree.Levels.{total-only}
 use Rattle.rules.proofs.Tree.Carried.{pendings, fromChildren}
 use Rattle.rules.proofs.Tree.Kept.{CarriedIn, new-carried, run-carried}
@@ -33,12 +32,13 @@ module _ {s : Ledger} (proper : Proper s) (opening : List ℕ) {k : ℕ} (carrie
   topSum-pending : topSum (s .table) k ≡ fromChildren (s .table) k 0
   unfolding topSum
   topSum-pending =
-      same-brought (s .table) (s .table) (pendings (s .table) k) (totalOf (s .table) k) 0 refl
-      (λ m h. record { parent = refl; state = refl; sum = λ child did. sym (total-pending m h) })
+      committed-agree (s .table) (pendings (s .table) k) (totalOf (s .table) k) 0 (λ m h child did. sym (total-pending m h))
 
 -- ---- every list of events
 
-module _ (base shadow : List ℕ) (baseFits : length base ≡ baseLength) (shadowFits : length shadow ≡ shadowLength) (es : List Event) where
+module _
+    (base shadow : List ℕ) (baseFits : length base ≡ baseLength) (shadowFits : length shadow ≡ shadowLength)
+    (es : List Event) where
   abbrev after : Ledger
   after = ledgerAfter base shadow es
 
@@ -65,6 +65,6 @@ module _ (base shadow : List ℕ) (baseFits : length base ≡ baseLength) (shado
             (λ n k known charge. rw (← totals n k known charge) (amount-of-any (pendingWord (after .table) n k)));
       }
 
-  -- RULES 12.7: no day file has so many events that the report is refused
+  -- after as many events as a day file may have
   pub reported-of-few : length es ≤ mostEvents → treeCause (after .table) (after .base) (after .shadow) base ≡ 0
   reported-of-few few = balanced .reported (few-events-fit base shadow es few)
