@@ -1,10 +1,22 @@
--- The tree of a table: that it has levels enough, a line for each action, and that opening and sum make closing.
+-- The tree of a table: levels enough, a line for each action, and that opening and sum make closing.
 pub mod Sums
 pub mod Brought
 pub mod Levels
 pub mod Carried
+pub mod Quiet
 pub mod QuietEvents
+pub mod Adding
 pub mod Starting
 pub mod CommitSums
 pub mod CommitChildren
 pub mod Committing
+pub mod ByChange
+pub mod Kept
+pub mod Numbers
+pub mod Held
+pub mod Lines
+pub mod Magnitudes
+pub mod OwnAdds
+pub mod FewEvents
+pub mod NotRefused
+pub mod Theorem

@@ -1,10 +1,11 @@
 -- RULES 12.7: opening and sum make closing, for every list of events. Assumes nothing.
 use Prim.Native.Nat.{ℕ}
 use mathlib.Core.Path.{_≡_}
+use mathlib.Core.Bool.{true}
 use mathlib.Core.List.{List}
 use lib.IntN.{_+ℤ_}
 use Rattle.rules.specs.Card.{IsCharge}
-use Rattle.rules.specs.Amount.{baseAmount}
+use Rattle.rules.specs.Amount.{isAmount, baseAmount}
 use Rattle.rules.specs.Table.{pendingSum}
 use Rattle.rules.specs.Sound.{IsStarted}
 use Rattle.rules.specs.Event.{Event}
@@ -28,6 +29,9 @@ pub record Balanced (base shadow : List ℕ) (es : List Event) : Type 0 where
       (k : ℕ) → IsCharge k →
       baseAmount (ledgerAfter base shadow es .base) k
       ≡ baseAmount base k +ℤ topSum (ledgerAfter base shadow es .table) k
-  -- the report that has base for its opening store is not refused
+  -- The report that has base for its opening store is not refused, if the sums of its last block are amounts. They are after as
+  -- many events as a day file may have (proofs/Tree/Theorem.antt). After far more, such a sum can be outside 64 signed bits
+  -- though every base amount is inside.
   pub reported :
-      let s = ledgerAfter base shadow es in treeCause (s .table) (s .base) (s .shadow) base ≡ 0
+      let s = ledgerAfter base shadow es in
+      ((k : ℕ) → IsCharge k → isAmount (topSum (s .table) k) ≡ true) → treeCause (s .table) (s .base) (s .shadow) base ≡ 0

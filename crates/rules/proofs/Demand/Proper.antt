@@ -2,13 +2,14 @@
 -- Assumes nothing.
 use Prim.Native.Nat.{ℕ}
 use mathlib.Core.Path.{_≡_, _∙_}
-use mathlib.Core.List.{List}
+use mathlib.Core.List.{List, [], _∷_}
 use lib.ListN.{length}
 use Rattle.rules.specs.Card.{baseLength, shadowLength}
 use Rattle.rules.specs.Sound.{Sound}
 use Rattle.rules.specs.Event.{Event}
 use Rattle.rules.specs.Ledger.{Ledger}
 use Rattle.rules.specs.Step.{step}
+use Rattle.rules.specs.Run.{run}
 use Rattle.rules.specs.Serial.Demand.{newOver}
 use Rattle.rules.proofs.Sound.Kept.{new-sound, step-keeps-sound}
 use Rattle.rules.proofs.Stores.Untouched.{lengths-kept}
@@ -29,3 +30,8 @@ step-keeps-proper s e proper =
       baseFits = lengths .ofBase ∙ proper .baseFits;
       shadowFits = lengths .ofShadow ∙ proper .shadowFits;
     }
+
+pub run-keeps-proper : (s : Ledger) (es : List Event) → Proper s → Proper (run s es .after)
+unfolding run
+run-keeps-proper s [] proper = proper
+run-keeps-proper s (e ∷ es) proper = run-keeps-proper (step s e .after) es (step-keeps-proper s e proper)

@@ -11,7 +11,7 @@ use Rattle.rules.specs.declared.Answer.the-variants.{Refused}
 use Rattle.rules.specs.declared.Found.{Found}
 use Rattle.rules.specs.declared.Found.the-variants.{Nothing}
 use Rattle.rules.specs.Card.{accountCount, firstCharge, chargeCount, isCharge, chargeAccounts, IsCharge, IsCard}
-use Rattle.rules.specs.Amount.{isAmount, amountIn}
+use Rattle.rules.specs.Amount.{isAmount, isAddable, amountIn}
 use Rattle.rules.specs.Table.{mostActions, started, parentOf, hasWritten, pendingSum, ownAdds, isLive, isLiveChildOf, hasLiveChild, actions}
 use Rattle.rules.specs.Sound.{IsStarted}
 use Rattle.rules.specs.Event.{Event, commitCode, addCode, isStart, isRead, isWrite, isCommit, isAdd}
@@ -44,8 +44,9 @@ pub record Committable (w : List ℕ) (n : ℕ) : Type 0 where
   pub alive : isLive w n ≡ true
   pub childless : hasLiveChild w n ≡ false
 
--- the sums that n's add of this card's amount to charge account k leaves are amounts
+-- n's add of this card's amount to charge account k adds no more than an event may, and the sums that it leaves are amounts
 pub record AddFits (w : List ℕ) (n k : ℕ) (card : List ℕ) : Type 0 where
+  pub addable : isAddable (amountIn card) ≡ true
   pub pendingFits : isAmount (pendingSum w n k +ℤ amountIn card) ≡ true
   pub ownAddsFit : isAmount (ownAdds w n k +ℤ amountIn card) ≡ true
 
@@ -102,7 +103,7 @@ module _ {s : Ledger} {e : Event} (a : AllowedIn s e) where
   unfolding areOutside
   add-fits is =
       let (pending, own) = or-fails _ _ .0 (rw (sums-of-add e is) at (a .sumsFit)) in
-      record { pendingFits = not-fails _ .0 pending; ownAddsFit = not-fails _ .0 own }
+      record { addable = a .early .addable is; pendingFits = not-fails _ .0 pending; ownAddsFit = not-fails _ .0 own }
 
   commit-fits : isCommit e ≡ true → isCommitOutside (s .table) (s .base) (e .number) (firstClash (s .table) (e .number)) ≡ false
   unfolding areOutside

@@ -34,30 +34,33 @@ module _ (w : List ℕ) (f : ℕ → ℤ) (p m : ℕ) where
 
 -- Action m brings p the same in the tables w and v where its parent and whether it committed are the same and, if it is a
 -- committed child of p, what f and g give for it.
-module _ (w v : List ℕ) (f g : ℕ → ℤ) (p m : ℕ) where
-  pub record BringsSame : Type 0 where
-    pub parent : parentOf v m ≡ parentOf w m
-    pub state : isCommitted v m ≡ isCommitted w m
-    pub sum : parentOf w m ≡ p → isCommitted w m ≡ true → g m ≡ f m
-
-  pub brings-same : BringsSame → brought v g p m ≡ brought w f p m
-  brings-same same =
-      rw (same .parent, same .state)
-      (chosen (isChildOf w p m) (isCommitted w m) (λ child did. same .sum (eqb-true (parentOf w m) p child) did))
-    where
-      chosen :
-          (b c : Bool) {x y : ℤ} → (b ≡ true → c ≡ true → x ≡ y) →
-          cond b (cond c x (pos 0)) (pos 0) ≡ cond b (cond c y (pos 0)) (pos 0)
-      chosen true true e = e refl refl
-      chosen true false e = refl
-      chosen false c e = refl
+pub brings-same :
+    (w v : List ℕ) (f g : ℕ → ℤ) (p m : ℕ) → parentOf v m ≡ parentOf w m → isCommitted v m ≡ isCommitted w m →
+    (parentOf w m ≡ p → isCommitted w m ≡ true → g m ≡ f m) → brought v g p m ≡ brought w f p m
+brings-same w v f g p m parent state sum =
+    rw (parent, state) (chosen (isChildOf w p m) (isCommitted w m) (λ child did. sum (eqb-true (parentOf w m) p child) did))
+  where
+    chosen :
+        (b c : Bool) {x y : ℤ} → (b ≡ true → c ≡ true → x ≡ y) →
+        cond b (cond c x (pos 0)) (pos 0) ≡ cond b (cond c y (pos 0)) (pos 0)
+    chosen true true e = e refl refl
+    chosen true false e = refl
+    chosen false c e = refl
 
 -- where all actions bring p the same, they bring it the same together
 pub same-brought :
-    (w v : List ℕ) (f g : ℕ → ℤ) (p : ℕ) → started v ≡ started w → ((m : ℕ) → IsStarted w m → BringsSame w v f g p m) →
+    (w v : List ℕ) (f g : ℕ → ℤ) (p : ℕ) → started v ≡ started w →
+    ((m : ℕ) → IsStarted w m → brought v g p m ≡ brought w f p m) →
     addedUp g (committedChildren v p) ≡ addedUp f (committedChildren w p)
 unfolding actions
 same-brought w v f g p starts same =
     all-brought v g p
-    ∙ rw starts (addedUp-agree _ _ 1 (started w) (λ m h. brings-same w v f g p m (same m (omega arith))))
+    ∙ rw starts (addedUp-agree _ _ 1 (started w) (λ m h. same m (omega arith)))
     ∙ sym (all-brought w f p)
+
+-- in one table: where f and g agree on the committed children of p
+pub committed-agree :
+    (w : List ℕ) (f g : ℕ → ℤ) (p : ℕ) →
+    ((m : ℕ) → IsStarted w m → parentOf w m ≡ p → isCommitted w m ≡ true → g m ≡ f m) →
+    addedUp g (committedChildren w p) ≡ addedUp f (committedChildren w p)
+committed-agree w f g p same = same-brought w w f g p refl (λ m h. brings-same w w f g p m refl refl (same m h))

@@ -1,16 +1,12 @@
--- What is kept through every list of events, of one charge account: each action's pending sum is its own adds and the pending
--- sums of its committed children, and the base amount is the opening amount and those of the committed topactions. Assumes nothing.
+-- What every event keeps of a charge account: each action's pending sum is its own adds and the pending sums of its committed
+-- children, and the base amount is the opening amount and those of the committed topactions. Assumes nothing.
 use Prim.Native.Nat.{ℕ}
-use native.Mathlib.Omega.{arith}
-use mathlib.Core.Path.{_≡_, sym, ap, ap₂, _∙_}
-use mathlib.Core.Bool.{true}
+use mathlib.Core.Path.{_≡_}
 use mathlib.Core.List.{List}
-use lib.IntN.{ℤ, pos, _+ℤ_, +ℤ-idr, +ℤ-assoc, +ℤ-comm}
-use Rattle.rules.specs.Amount.{amountOf}
-use Rattle.rules.specs.Table.{started, parentOf, pendingWord, pendingSum, ownAddsWord, ownAdds, isCommitted}
+use lib.IntN.{ℤ, _+ℤ_}
+use Rattle.rules.specs.Table.{pendingSum, ownAdds}
 use Rattle.rules.specs.Sound.{IsStarted}
 use Rattle.rules.specs.Tree.{committedChildren, addedUp}
-use Rattle.rules.proofs.Tree.Brought.{BringsSame, same-brought}
 
 -- the pending sums for charge account k, and what they make for p's committed children
 abbrev pub pendings : List ℕ → ℕ → ℕ → ℤ
@@ -23,50 +19,3 @@ fromChildren w k p = addedUp (pendings w k) (committedChildren w p)
 pub record Carried (k : ℕ) (opening : ℤ) (w : List ℕ) (now : ℤ) : Type 0 where
   pub sums : (n : ℕ) → IsStarted w n → pendingSum w n k ≡ ownAdds w n k +ℤ fromChildren w k n
   pub closing : now ≡ opening +ℤ fromChildren w k 0
-
--- what was added behind the first of two comes behind both
-pub add-behind : (a b z : ℤ) → (a +ℤ z) +ℤ b ≡ (a +ℤ b) +ℤ z
-add-behind a b z = +ℤ-assoc a z b ∙ ap (λ y. a +ℤ y) (+ℤ-comm z b) ∙ sym (+ℤ-assoc a b z)
-
--- ---- events that start and commit nothing
-
--- action m's pending sum and its own adds have grown by the same
-abbrev pub GrowAlike : List ℕ → List ℕ → ℕ → ℕ → Type 0
-GrowAlike w v k m = (z : ℤ) × (pendingSum v m k ≡ pendingSum w m k +ℤ z) × (ownAdds v m k ≡ ownAdds w m k +ℤ z)
-
--- so they have where neither word changed
-pub grow-nothing :
-    (w v : List ℕ) (k m : ℕ) → pendingWord v m k ≡ pendingWord w m k → ownAddsWord v m k ≡ ownAddsWord w m k → GrowAlike w v k m
-grow-nothing w v k m pending own =
-    (pos 0, ap amountOf pending ∙ sym (+ℤ-idr (pendingSum w m k)), ap amountOf own ∙ sym (+ℤ-idr (ownAdds w m k)))
-
--- the table v after w: the same actions, parents and committed actions, and no sum of one that has committed changes
-pub record Quiet (w v : List ℕ) (k : ℕ) : Type 0 where
-  pub starts : started v ≡ started w
-  pub parents : (m : ℕ) → IsStarted w m → parentOf v m ≡ parentOf w m
-  pub states : (m : ℕ) → IsStarted w m → isCommitted v m ≡ isCommitted w m
-  pub settled : (m : ℕ) → IsStarted w m → isCommitted w m ≡ true → pendingWord v m k ≡ pendingWord w m k
-  pub grown : (m : ℕ) → IsStarted w m → GrowAlike w v k m
-
-pub quiet-carried : {w v : List ℕ} {k : ℕ} {opening now : ℤ} → Quiet w v k → Carried k opening w now → Carried k opening v now
-quiet-carried {w} {v} {k} {opening} quiet was =
-    record {
-      sums = λ n h. carries n (h .0, rw (quiet .starts) at (h .1));
-      closing = was .closing ∙ ap (λ z. opening +ℤ z) (sym (children-kept 0));
-    }
-  where
-    children-kept : (p : ℕ) → fromChildren v k p ≡ fromChildren w k p
-    children-kept p =
-        same-brought w v (pendings w k) (pendings v k) p (quiet .starts)
-        (λ m h.
-        record {
-          parent = quiet .parents m h;
-          state = quiet .states m h;
-          sum = λ child did. ap amountOf (quiet .settled m h did);
-        })
-
-    carries : (n : ℕ) → IsStarted w n → pendingSum v n k ≡ ownAdds v n k +ℤ fromChildren v k n
-    carries n h =
-        let (z, pending, own) = quiet .grown n h in
-        pending ∙ ap (λ y. y +ℤ z) (was .sums n h)
-        ∙ sym (ap₂ _+ℤ_ own (children-kept n) ∙ add-behind (ownAdds w n k) (fromChildren w k n) z)

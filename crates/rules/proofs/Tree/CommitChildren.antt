@@ -2,15 +2,15 @@
 use Prim.Native.Nat.{ℕ}
 use native.Mathlib.Omega.{arith}
 use native.Mathlib.Decide.{ℕ-discrete}
-use mathlib.Core.Path.{_≡_, refl, sym, ap, ap₂, _∙_}
-use mathlib.Core.Logic.{inl, inr, ⊎-elim, _≢_}
-use mathlib.Core.Bool.{true, false}
+use mathlib.Core.Path.{_≡_, sym, ap, _∙_}
+use mathlib.Core.Logic.{inr, ⊎-elim, _≢_}
+use mathlib.Core.Bool.{true}
 use mathlib.Core.List.{List}
 use lib.Dec.{eqb}
 use lib.IntN.{pos, _+ℤ_, +ℤ-idl}
 use Rattle.rules.specs.Card.{IsCharge}
 use Rattle.rules.specs.Amount.{amountOf}
-use Rattle.rules.specs.Table.{committed, started, parentOf, stateField, pendingField, pendingSum, isCommitted, actions}
+use Rattle.rules.specs.Table.{committed, started, parentOf, stateField, pendingField, pendingWord, pendingSum, isCommitted, actions}
 use Rattle.rules.specs.Sound.{IsStarted}
 use Rattle.rules.specs.Ledger.{Ledger}
 use Rattle.rules.specs.Step.{commitTable}
@@ -20,8 +20,8 @@ use Rattle.rules.proofs.Sound.TableChanges.{live-uncommitted}
 use Rattle.rules.proofs.Sound.Committing.{commit-started, commit-parent, commit-keeps-row, commit-keeps-others}
 use Rattle.rules.proofs.Demand.Proper.{Proper}
 use Rattle.rules.proofs.Demand.CommitTable.{parent-other, now-committed}
-use Rattle.rules.proofs.Tree.Sums.{addedUp-agree, addedUp-above}
-use Rattle.rules.proofs.Tree.Brought.{brought, all-brought, child-brings, other-brings-nothing, uncommitted-brings-nothing, brings-same}
+use Rattle.rules.proofs.Tree.Sums.{addedUp-above}
+use Rattle.rules.proofs.Tree.Brought.{brought, all-brought, child-brings, other-brings-nothing, uncommitted-brings-nothing, brings-same, same-brought}
 use Rattle.rules.proofs.Tree.Carried.{pendings, fromChildren}
 
 module _
@@ -41,19 +41,16 @@ module _
       (λ alive. live-uncommitted w p (rw under at alive) (rw e at did))
       (proper .sound .alive n (judged .own) (judged .alive))
 
+  sum-kept : (m : ℕ) → m ≢ p → pendingWord v m k ≡ pendingWord w m k
+  sum-kept m other = commit-keeps-others w n p (judged .own .0) m other (pendingField k) (omega arith) (omega arith)
+
   others-bring : (q m : ℕ) → IsStarted w m → m ≢ n → brought v (pendings v k) q m ≡ brought w (pendings w k) q m
   others-bring q m h other =
-      brings-same w v (pendings w k) (pendings v k) q m (
-        record {
-          parent = commit-parent w n p (judged .own .0) m;
-          state =
-              ap (λ x. eqb x committed) (commit-keeps-row w n p (judged .own .0) m stateField (omega arith) (h .0) other (inr (omega arith)));
-          sum =
-              λ child did.
-              ap amountOf
-              (commit-keeps-others w n p (judged .own .0) m (committed-no-parent m h did) (pendingField k) (omega arith) (omega arith));
-        }
-      )
+      brings-same w v (pendings w k) (pendings v k) q m
+      (commit-parent w n p (judged .own .0) m)
+      (ap (λ x. eqb x committed)
+      (commit-keeps-row w n p (judged .own .0) m stateField (omega arith) (h .0) other (inr (omega arith))))
+      (λ child did. ap amountOf (sum-kept m (committed-no-parent m h did)))
 
   -- it brought nothing before
   brought-nothing : (q : ℕ) → brought w (pendings w k) q n ≡ pos 0
@@ -63,15 +60,12 @@ module _
   now-brings : brought v (pendings v k) p n ≡ pendingSum w n k
   now-brings =
       child-brings v (pendings v k) p n (commit-parent w n p (judged .own .0) n ∙ under) (now-committed proper judged under)
-      ∙ ap amountOf
-      (commit-keeps-others w n p (judged .own .0) n (λ e. parent-other proper judged under (sym e)) (pendingField k) (omega arith) (omega arith))
+      ∙ ap amountOf (sum-kept n (λ e. parent-other proper judged under (sym e)))
 
   pub others-children-kept : (q : ℕ) → q ≢ p → fromChildren v k q ≡ fromChildren w k q
-  unfolding actions
   others-children-kept q other =
-      all-brought v (pendings v k) q
-      ∙ rw (commit-started w n p (judged .own .0)) (addedUp-agree _ _ 1 (started w) (λ m h. brings m (omega arith) (ℕ-discrete m n)))
-      ∙ sym (all-brought w (pendings w k) q)
+      same-brought w v (pendings w k) (pendings v k) q (commit-started w n p (judged .own .0))
+      (λ m h. brings m h (ℕ-discrete m n))
     where
       brings : (m : ℕ) → IsStarted w m → Dec (m ≡ n) → brought v (pendings v k) q m ≡ brought w (pendings w k) q m
       brings m h (no ne) = others-bring q m h ne

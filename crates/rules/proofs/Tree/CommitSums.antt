@@ -37,7 +37,9 @@ module _
       (λ written. amount-read-back _ (parent-sum-fits proper judged under fits k sub charge written))
       (nothing-added (pendingSum (s .table) p k))
 
-  settled-amount : p ≡ 0 → hasWritten (s .table) n k ≡ true → amountIn (settledCard s n k) ≡ baseAmount (s .base) k +ℤ pendingSum (s .table) n k
+  settled-amount :
+      p ≡ 0 → hasWritten (s .table) n k ≡ true →
+      amountIn (settledCard s n k) ≡ baseAmount (s .base) k +ℤ pendingSum (s .table) n k
   unfolding settledCard
   settled-amount top written =
       rw (is-charge charge) (amount-put _ _ (base-sum-fits proper judged under fits k top charge written))

@@ -8,7 +8,7 @@ use lib.IntN.{ℤ, _+ℤ_}
 use Rattle.rules.specs.Table.{mostActions, ownAdds}
 use Rattle.rules.specs.Sound.{IsStarted, Sound}
 use Rattle.rules.specs.Tree.{committedChildren, addedUp, totalWithin, totalOf}
-use Rattle.rules.proofs.Tree.Brought.{BringsSame, same-brought}
+use Rattle.rules.proofs.Tree.Brought.{committed-agree}
 
 -- ---- anything that is made level by level
 
@@ -49,9 +49,7 @@ module _ {w : List ℕ} (s : Sound w) (k : ℕ) where
   total-later :
       (f g : ℕ → ℤ) (n : ℕ) → ((m : ℕ) → IsStarted w m → n < m → f m ≡ g m) → total-of f n ≡ total-of g n
   total-later f g n same =
-      ap (λ z. ownAdds w n k +ℤ z)
-      (same-brought w w g f n refl
-      (λ m h. record { parent = refl; state = refl; sum = λ child did. same m h (omega (arith, s .below m h)) }))
+      ap (λ z. ownAdds w n k +ℤ z) (committed-agree w g f n (λ m h child did. same m h (omega (arith, s .below m h))))
 
   total-made : (levels n : ℕ) → totalWithin (suc levels) w k n ≡ total-of (totalWithin levels w k) n
   unfolding totalWithin

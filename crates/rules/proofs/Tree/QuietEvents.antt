@@ -1,28 +1,19 @@
--- A read, a write, an add, a failed commit and an abort start and commit nothing; only an add changes sums, and it adds to the
--- pending sum and the own adds alike. Assumes nothing.
+-- A read, a write, a failed commit and an abort start and commit nothing, and change no sum. Assumes nothing.
 use Prim.Native.Nat.{ℕ, _<_}
 use native.Mathlib.Omega.{arith}
-use native.Mathlib.Decide.{ℕ-discrete}
-use mathlib.Core.Path.{_≡_, ap, _∙_}
-use mathlib.Core.Logic.{_≢_}
-use mathlib.Core.Bool.{true}
+use mathlib.Core.Path.{_≡_, refl, ap}
 use mathlib.Core.List.{List}
 use lib.Dec.{eqb}
-use lib.IntN.{ℤ}
 use Rattle.rules.specs.Card.{firstCharge, IsCharge}
-use Rattle.rules.specs.Amount.{amountOf, amountIn}
 use Rattle.rules.specs.Table.{committed, aborted, withState, startedField, started, parentField, parentOf, stateField, pendingField, pendingWord, ownAddsField, ownAddsWord, isCommitted}
 use Rattle.rules.specs.Sound.{IsStarted, Sound}
-use Rattle.rules.specs.Step.{readTable, writeTable, addTable, abortTable}
-use Rattle.rules.proofs.Laws.Amounts.{amount-read-back}
-use Rattle.rules.proofs.Laws.Permitted.{Touchable, Committable, AddFits}
-use Rattle.rules.proofs.Sound.TableChanges.{live-uncommitted}
+use Rattle.rules.specs.Step.{readTable, writeTable, abortTable}
+use Rattle.rules.proofs.Laws.Permitted.{Touchable, Committable}
 use Rattle.rules.proofs.Sound.Reading.{read-keeps-field}
 use Rattle.rules.proofs.Sound.Writing.{write-keeps-field}
-use Rattle.rules.proofs.Sound.Adding.{add-keeps-field, add-keeps-row, add-pending, add-own-adds, add-keeps-own-adds}
 use Rattle.rules.proofs.Sound.Judging.{fail-keeps-field, fail-committed}
 use Rattle.rules.proofs.Sound.Aborting.{abort-keeps-field, abort-keeps-committed}
-use Rattle.rules.proofs.Tree.Carried.{GrowAlike, grow-nothing, Quiet}
+use Rattle.rules.proofs.Tree.Quiet.{grow-nothing, Quiet}
 
 -- where no sum changes at all
 calm :
@@ -37,6 +28,10 @@ calm {w} {v} {k} starts parents states pendings owns =
       settled = λ m h did. pendings m;
       grown = λ m h. grow-nothing w v k m (pendings m) (owns m);
     }
+
+-- nothing changes
+pub nothing-quiet : (w : List ℕ) (k : ℕ) → Quiet w w k
+nothing-quiet w k = calm refl (λ m h. refl) (λ m h. refl) (λ m. refl) (λ m. refl)
 
 module _ {w : List ℕ} (s : Sound w) (n k : ℕ) (charge : IsCharge k) where
   pub read-quiet : (j : ℕ) → Touchable w n j → Quiet w (readTable w n j) k
@@ -78,37 +73,3 @@ module _ {w : List ℕ} (s : Sound w) (n k : ℕ) (charge : IsCharge k) where
       (abort-keeps-committed w n s)
       (λ m. kept m (pendingField k) (omega arith) (λ z. omega arith))
       (λ m. kept m (ownAddsField k) (omega arith) (λ z. omega arith))
-
-  -- the sums of n for j grow by what is added; an action that has committed is another one
-  pub add-quiet : (j : ℕ) (card : List ℕ) → Touchable w n j → IsCharge j → AddFits w n j card → Quiet w (addTable w n j (amountIn card)) k
-  add-quiet j card p to fits =
-      let kept = add-keeps-field w s n j (p .own) (p .alive) to (amountIn card) in
-      record {
-        starts = kept 0 startedField (omega arith) (λ z. omega arith) (λ z. omega arith);
-        parents = λ m h. kept m parentField (omega arith) (λ z. omega arith) (λ z. omega arith);
-        states = λ m h. ap (λ x. eqb x committed) (kept m stateField (omega arith) (λ z. omega arith) (λ z. omega arith));
-        settled =
-            λ m h did.
-            add-keeps-row w s n j (p .own) (p .alive) to (amountIn card) m (pendingField k) (omega arith)
-            (λ e. live-uncommitted w n (p .alive) (rw e at did));
-        grown = λ m h. grown m (ℕ-discrete m n) (ℕ-discrete k j);
-      }
-    where
-      x : ℤ
-      x = amountIn card
-
-      grown : (m : ℕ) → Dec (m ≡ n) → Dec (k ≡ j) → GrowAlike w (addTable w n j x) k m
-      grown m (no ne) _ =
-          grow-nothing w _ k m
-          (add-keeps-row w s n j (p .own) (p .alive) to x m (pendingField k) (omega arith) ne)
-          (add-keeps-row w s n j (p .own) (p .alive) to x m (ownAddsField k) (omega arith) ne)
-      grown m (yes e) (no ne) =
-          grow-nothing w _ k m
-          (add-keeps-field w s n j (p .own) (p .alive) to x m (pendingField k) (omega arith) (λ z. omega arith) (λ z. ne (omega arith)))
-          (add-keeps-own-adds w s n j (p .own) (p .alive) to x m k charge ne)
-      grown m (yes e) (yes same) =
-          rw (e, same) (
-            x,
-            ap amountOf (add-pending w s n j (p .own) (p .alive) to x) ∙ amount-read-back _ (fits .pendingFits),
-            ap amountOf (add-own-adds w s n j (p .own) (p .alive) to x) ∙ amount-read-back _ (fits .ownAddsFit),
-          )

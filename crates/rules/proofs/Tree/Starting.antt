@@ -4,19 +4,18 @@ use native.Mathlib.Omega.{arith}
 use native.Mathlib.Nat.{add-comm}
 use native.Mathlib.Numerals.{add-one}
 use mathlib.Core.Path.{_≡_, refl, sym, ap, ap₂, _∙_}
-use mathlib.Core.Bool.{false}
 use mathlib.Core.List.{List}
 use lib.Dec.{eqb}
 use lib.IntN.{ℤ, pos, _+ℤ_, +ℤ-idr}
 use Rattle.rules.specs.Card.{IsCharge}
 use Rattle.rules.specs.Amount.{amountOf}
-use Rattle.rules.specs.Table.{width, committed, word, started, parentField, stateField, pendingField, pendingSum, ownAddsField, ownAdds, isCommitted, actions}
+use Rattle.rules.specs.Table.{width, committed, word, started, parentField, stateField, pendingField, pendingSum, ownAddsField, ownAdds, actions}
 use Rattle.rules.specs.Sound.{IsStarted, Sound}
 use Rattle.rules.specs.Step.{startTable}
 use Rattle.rules.proofs.Laws.Permitted.{Startable}
 use Rattle.rules.proofs.Sound.Starting.{new, start-started, start-state, start-pending, start-own-adds, old-row, by-age}
 use Rattle.rules.proofs.Tree.Sums.{addedUp-agree, addedUp-nothing, addedUp-longer}
-use Rattle.rules.proofs.Tree.Brought.{brought, all-brought, BringsSame, brings-same, other-brings-nothing, uncommitted-brings-nothing}
+use Rattle.rules.proofs.Tree.Brought.{brought, all-brought, brings-same, other-brings-nothing, uncommitted-brings-nothing}
 use Rattle.rules.proofs.Tree.Carried.{pendings, fromChildren, Carried}
 
 module _ {w : List ℕ} (s : Sound w) (p k : ℕ) (charge : IsCharge k) (permitted : Startable w p) where
@@ -28,14 +27,12 @@ module _ {w : List ℕ} (s : Sound w) (p k : ℕ) (charge : IsCharge k) (permitt
 
   brought-kept : (q m : ℕ) → IsStarted w m → brought v (pendings v k) q m ≡ brought w (pendings w k) q m
   brought-kept q m h =
-      brings-same w v (pendings w k) (pendings v k) q m (
-        record {
-          parent = old-kept m parentField h (omega arith);
-          state = ap (λ x. eqb x committed) (old-kept m stateField h (omega arith));
-          sum = λ child did. ap amountOf (old-kept m (pendingField k) h (omega arith));
-        }
-      )
+      brings-same w v (pendings w k) (pendings v k) q m
+      (old-kept m parentField h (omega arith))
+      (ap (λ x. eqb x committed) (old-kept m stateField h (omega arith)))
+      (λ child did. ap amountOf (old-kept m (pendingField k) h (omega arith)))
 
+  -- the new action is live
   new-brings : (q : ℕ) → brought v (pendings v k) q (1 + started w) ≡ pos 0
   new-brings q =
       rw (add-comm 1 (started w))
@@ -50,6 +47,7 @@ module _ {w : List ℕ} (s : Sound w) (p k : ℕ) (charge : IsCharge k) (permitt
       ∙ addedUp-agree _ _ 1 (started w) (λ m h. brought-kept q m (omega arith)))
       ∙ sym (all-brought w _ q)
 
+  -- parents are older than their children
   new-childless : fromChildren w k (new w p) ≡ pos 0
   unfolding actions
   new-childless =
@@ -57,16 +55,25 @@ module _ {w : List ℕ} (s : Sound w) (p k : ℕ) (charge : IsCharge k) (permitt
       ∙ addedUp-nothing _ 1 (started w)
       (λ m h. other-brings-nothing w (pendings w k) (new w p) m (λ e. omega (arith, s .below m (omega arith))))
 
-  pub start-carried : {opening now : ℤ} → Carried k opening w now → Carried k opening v now
-  start-carried {opening} was =
-      record {
-        sums =
-            by-age w p s (permitted .room) (permitted .known) (permitted .alive) _
-            (λ n h.
-            ap amountOf (old-kept n (pendingField k) h (omega arith)) ∙ was .sums n h
-            ∙ sym (ap₂ _+ℤ_ (ap amountOf (old-kept n (ownAddsField k) h (omega arith))) (children-kept n)))
-            (ap amountOf (start-pending w p (s .long) (permitted .room) k charge)
-            ∙ sym (ap₂ _+ℤ_ (ap amountOf (start-own-adds w p (s .long) (permitted .room) k charge)) (children-kept (new w p) ∙ new-childless)
-            ∙ +ℤ-idr (amountOf 0)));
-        closing = was .closing ∙ ap (λ z. opening +ℤ z) (sym (children-kept 0));
-      }
+  new-own : ownAdds v (new w p) k ≡ amountOf 0
+  new-own = ap amountOf (start-own-adds w p (s .long) (permitted .room) k charge)
+
+  new-carried : pendingSum v (new w p) k ≡ ownAdds v (new w p) k +ℤ fromChildren v k (new w p)
+  new-carried =
+      ap amountOf (start-pending w p (s .long) (permitted .room) k charge)
+      ∙ sym (+ℤ-idr (amountOf 0))
+      ∙ sym (ap₂ _+ℤ_ new-own (children-kept (new w p) ∙ new-childless))
+
+  module _ {opening now : ℤ} (was : Carried k opening w now) where
+    old-carried : (n : ℕ) → IsStarted w n → pendingSum v n k ≡ ownAdds v n k +ℤ fromChildren v k n
+    old-carried n h =
+        ap amountOf (old-kept n (pendingField k) h (omega arith))
+        ∙ was .sums n h
+        ∙ sym (ap₂ _+ℤ_ (ap amountOf (old-kept n (ownAddsField k) h (omega arith))) (children-kept n))
+
+    pub start-carried : Carried k opening v now
+    start-carried =
+        record {
+          sums = by-age w p s (permitted .room) (permitted .known) (permitted .alive) _ old-carried new-carried;
+          closing = was .closing ∙ ap (λ z. opening +ℤ z) (sym (children-kept 0));
+        }

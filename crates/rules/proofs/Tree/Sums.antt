@@ -12,6 +12,10 @@ use Rattle.rules.specs.Range.{upFrom, filter}
 use Rattle.rules.specs.Tree.{addedUp}
 use Rattle.rules.proofs.Laws.Ranges.{Within}
 
+-- what is added to the first of two is added to both
+pub add-behind : (a b z : ℤ) → (a +ℤ z) +ℤ b ≡ (a +ℤ b) +ℤ z
+add-behind a b z = +ℤ-assoc a z b ∙ ap (λ y. a +ℤ y) (+ℤ-comm z b) ∙ sym (+ℤ-assoc a b z)
+
 -- over those of which c holds: the others add nothing
 pub addedUp-filter : (f : ℕ → ℤ) (c : ℕ → Bool) (l : List ℕ) → addedUp f (filter c l) ≡ addedUp (λ m. cond (c m) (f m) (pos 0)) l
 unfolding addedUp filter
@@ -55,7 +59,7 @@ addedUp-above f g z a (suc n) x h there elsewhere = by-place (ℕ-discrete x a) 
         g a +ℤ addedUp g (upFrom (suc a) n) ≡ (f a +ℤ addedUp f (upFrom (suc a) n)) +ℤ z
     by-place (yes e) later =
         ap₂ _+ℤ_ (rw e at there) (addedUp-agree g f (suc a) n (λ m r. elsewhere m (omega arith) (λ s. omega arith)))
-        ∙ +ℤ-assoc (f a) z rest ∙ ap (λ y. f a +ℤ y) (+ℤ-comm z rest) ∙ sym (+ℤ-assoc (f a) rest z)
+        ∙ add-behind (f a) rest z
     by-place (no ne) later =
         ap₂ _+ℤ_ (elsewhere a (omega arith) (λ s. ne (sym s))) (later (omega arith) there (λ m r. elsewhere m (omega arith)))
         ∙ sym (+ℤ-assoc (f a) rest z)

@@ -1,0 +1,60 @@
+-- Every action is below the store, once: what the store's children and all below them hold is what all actions hold.
+-- Assumes nothing.
+use Prim.Native.Nat.{ℕ, zero, suc, _+_, _<_}
+use native.Mathlib.Omega.{arith}
+use mathlib.Core.Path.{_≡_, refl, ap, _∙_}
+use mathlib.Core.Bool.{Bool, true, false, cond}
+use mathlib.Core.List.{List}
+use borrow.Author.Tests.{eqb-true}
+use Rattle.rules.specs.Range.{upFrom}
+use Rattle.rules.specs.Table.{mostActions, started, parentOf, actions, isChildOf}
+use Rattle.rules.specs.Sound.{IsStarted, Sound}
+use Rattle.rules.proofs.Laws.Walking.{parent-known}
+use Rattle.rules.proofs.Tree.Numbers.{sumOf, sumOf-agree, sumOf-plus, sumOf-swap, sumOf-there}
+use Rattle.rules.proofs.Tree.Levels.{levels-follow}
+
+-- what f gives for p's children, added up
+unfoldable pub ofChildren : List ℕ → (ℕ → ℕ) → ℕ → ℕ
+ofChildren w f p = sumOf (λ m. cond (isChildOf w p m) (f m) 0) (actions w)
+
+-- what n and all below it hold, from so many levels, where each action has its own
+unfoldable pub held : (ℕ → ℕ) → List ℕ → ℕ → ℕ → ℕ
+held own w zero n = 0
+held own w (suc levels) n = own n + ofChildren w (held own w levels) n
+
+module _ {w : List ℕ} (s : Sound w) where
+  -- an action's children are later
+  children-later :
+      (f g : ℕ → ℕ) (p : ℕ) → ((m : ℕ) → IsStarted w m → p < m → f m ≡ g m) → ofChildren w f p ≡ ofChildren w g p
+  unfolding ofChildren actions
+  children-later f g p same = sumOf-agree _ _ 1 (started w) (λ m h. at m (omega arith) (isChildOf w p m) refl)
+    where
+      at : (m : ℕ) → IsStarted w m → (b : Bool) → isChildOf w p m ≡ b → cond b (f m) 0 ≡ cond b (g m) 0
+      at m h true child = same m h (omega (arith, s .below m h, eqb-true (parentOf w m) p child))
+      at m h false other = refl
+
+  -- each action is the child of one action, or of the store
+  children-of-all : (f : ℕ → ℕ) → ofChildren w f 0 + sumOf (ofChildren w f) (actions w) ≡ sumOf f (actions w)
+  unfolding ofChildren actions sumOf upFrom
+  children-of-all f =
+      sumOf-swap (λ p m. cond (isChildOf w p m) (f m) 0) (upFrom 0 (suc (started w))) (upFrom 1 (started w))
+      ∙ sumOf-agree _ _ 1 (started w)
+      (λ m h. sumOf-there (parentOf w m) (f m) 0 (suc (started w)) (omega (arith, parent-known s m (omega arith))))
+
+  module _ (own : ℕ → ℕ) where
+    abbrev all-held : ℕ → ℕ
+    all-held = held own w mostActions
+
+    held-follows : (n : ℕ) → IsStarted w n → all-held n ≡ own n + ofChildren w all-held n
+    unfolding held
+    held-follows n known =
+        levels-follow s (λ f m. own m + ofChildren w f m) (λ f g m same. ap (λ z. own m + z) (children-later f g m same))
+        (held own w) (λ levels m. refl) mostActions n known (omega arith)
+
+    all-hold : sumOf all-held (actions w) ≡ sumOf own (actions w) + sumOf (ofChildren w all-held) (actions w)
+    unfolding actions
+    all-hold =
+        sumOf-agree _ _ 1 (started w) (λ n h. held-follows n (omega arith)) ∙ sumOf-plus own (ofChildren w all-held) (actions w)
+
+    pub held-by-all : ofChildren w (held own w mostActions) 0 ≡ sumOf own (actions w)
+    held-by-all = omega (arith, all-hold, children-of-all all-held)
