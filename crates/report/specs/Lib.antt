@@ -1,2 +1,3 @@
--- What the functions that make a report ask of their callers, and the lines of some children.
+-- What the functions that make a report ask of their callers, and the lines that they put.
 pub mod Asked
+pub mod Lined

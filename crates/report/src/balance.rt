@@ -6,13 +6,13 @@ ghost use Rattle.rules.specs.Card.{IsBase, IsCharge, chargeAccounts};
 ghost use Rattle.rules.specs.Tree.{balanceLength, blockPlace, balanceWords};
 ghost use Rattle.report.specs.Asked.{FiguresFit, HasRoomFor, IsReport};
 use amounts::bytes::word_at;
-use rules::store::ACCOUNTS;
-use rules::store::FIRST_CHARGE;
 use rules::report::BALANCE_LENGTH;
 use rules::report::BLOCK_AT;
 use rules::report::CLOSING_AT;
 use rules::report::OPENING_AT;
 use rules::report::SUM_AT;
+use rules::store::ACCOUNTS;
+use rules::store::FIRST_CHARGE;
 use stores::place::base_place;
 use totals::total::top_sum;
 

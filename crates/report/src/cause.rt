@@ -11,10 +11,10 @@ ghost use Rattle.totals.specs.Total.{fitsWithin};
 use causes::cause::store_cause;
 use rows::fields::last_start;
 use rules::cause;
+use rules::report::MOST_LEVELS;
 use rules::store::ACCOUNTS;
 use rules::store::BASE_LENGTH;
 use rules::store::FIRST_CHARGE;
-use rules::report::MOST_LEVELS;
 use totals::total::top_sum;
 use totals::total::total;
 

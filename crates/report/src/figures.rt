@@ -8,11 +8,11 @@ ghost use Rattle.rules.specs.Sound.{IsStarted};
 ghost use Rattle.rules.specs.Tree.{accountFigures, figuresOf};
 ghost use Rattle.report.specs.Asked.{FiguresFit, HasRoomFor, accountWords, figureWords};
 use rows::fields::own_adds;
-use rules::store::ACCOUNTS;
-use rules::store::FIRST_CHARGE;
 use rules::report::FIGURES;
 use rules::report::MOST_LEVELS;
 use rules::report::TOTAL_AT;
+use rules::store::ACCOUNTS;
+use rules::store::FIRST_CHARGE;
 use totals::total::total;
 
 // Those for one account: own adds, then total.

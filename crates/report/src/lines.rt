@@ -1,15 +1,13 @@
 // The lines of the tree: an action's, and directly below it those of its children, each with its own in turn.
 ghost use mathlib.Core.Path.{_≡_};
-ghost use mathlib.Core.List.{flatMap};
-ghost use Prim.Native.Nat.{_+_, _*_};
-ghost use lib.ListN.{length};
 ghost use lib.Seq.{sets};
 ghost use Rattle.rules.specs.Sound.{IsStarted};
 ghost use Rattle.rules.specs.Table.{isChildOf};
-ghost use Rattle.rules.specs.Tree.{lineLength, lineWords, linesWithin};
+ghost use Rattle.rules.specs.Tree.{lineLength, lineWords};
 ghost use Rattle.rows.specs.Row.{HasRow};
 ghost use Rattle.totals.specs.Total.{IsNext};
-ghost use Rattle.report.specs.Asked.{FiguresFit, HasRoomFor, HasLevels, HasLineRoom, lineOf, linesFrom};
+ghost use Rattle.report.specs.Asked.{FiguresFit, HasRoomFor};
+ghost use Rattle.report.specs.Lined.{HasLevels, HasLineRoom, lineOf, actionLines, linesFrom, IsLined};
 use crate::figures::put_figures;
 use rows::fields::last_start;
 use rows::fields::parent;
@@ -39,24 +37,32 @@ fn put_line(table: &[u64], report: &mut [u64], at: usize, n: u64, depth: u64)
     put_figures(table, report, at + FIGURES_AT, n);
 }
 
-// The lines under p, from so many levels; back comes where the next line goes.
-pub(crate) fn put_under(table: &[u64], report: &mut [u64], at: usize, p: u64, depth: u64, levels: u64) -> usize
+// An action's line, and those under it from so many levels; back comes where the next line goes.
+fn put_action(
+    table: &[u64],
+    report: &mut [u64],
+    at: usize,
+    n: u64,
+    depth: u64,
+    levels: u64,
+) -> usize
     requires { ⌜ FiguresFit (now table) ⌝ }
+    requires { ⌜ IsStarted (now table) n ⌝ }
     requires { ⌜ HasLevels depth levels ⌝ }
-    requires { ⌜ HasLineRoom (now report) at (linesWithin levels (now table) depth p) ⌝ }
-    ensures next { λ r. ⌜ r ≡ at + lineLength * length (linesWithin levels (now (table .entry)) depth p) ⌝ }
-    ensures leaves { λ r. ⌜ now (report .exit)
-        ≡ sets (now (report .entry)) at
-        (flatMap (lineWords (now (table .entry))) (linesWithin levels (now (table .entry)) depth p)) ⌝ }
+    requires { ⌜ HasLineRoom (now report) at (actionLines levels (now table) depth n) ⌝ }
+    ensures { λ r. ⌜ IsLined (now (table .entry)) (now (report .entry)) at
+        (actionLines levels (now (table .entry)) depth n) (now (report .exit)) r ⌝ }
 {
+    put_line(table, report, at, n, depth);
+    let next = at + LINE_LENGTH;
     if levels == 0 {
-        return at;
+        return next;
     }
-    put_list(table, report, at, p, 1, depth, levels - 1)
+    put_list(table, report, next, n, 1, depth + 1, levels - 1)
 }
 
-// Those of p's children from i on, each with the lines under it.
-fn put_list(
+// The lines of p's children from i on, each with those under it.
+pub(crate) fn put_list(
     table: &[u64],
     report: &mut [u64],
     at: usize,
@@ -67,12 +73,10 @@ fn put_list(
 ) -> usize
     requires { ⌜ FiguresFit (now table) ⌝ }
     requires { ⌜ IsNext (now table) i ⌝ }
-    requires { ⌜ HasLevels (depth + 1) levels ⌝ }
+    requires { ⌜ HasLevels depth levels ⌝ }
     requires { ⌜ HasLineRoom (now report) at (linesFrom levels (now table) depth p i) ⌝ }
-    ensures next { λ r. ⌜ r ≡ at + lineLength * length (linesFrom levels (now (table .entry)) depth p i) ⌝ }
-    ensures leaves { λ r. ⌜ now (report .exit)
-        ≡ sets (now (report .entry)) at
-        (flatMap (lineWords (now (table .entry))) (linesFrom levels (now (table .entry)) depth p i)) ⌝ }
+    ensures { λ r. ⌜ IsLined (now (table .entry)) (now (report .entry)) at
+        (linesFrom levels (now (table .entry)) depth p i) (now (report .exit)) r ⌝ }
 {
     if last_start(table) < i {
         return at;
@@ -80,7 +84,6 @@ fn put_list(
     if !is_child(table, p, i) {
         return put_list(table, report, at, p, i + 1, depth, levels);
     }
-    put_line(table, report, at, i, depth);
-    let next = put_under(table, report, at + LINE_LENGTH, i, depth + 1, levels);
+    let next = put_action(table, report, at, i, depth, levels);
     put_list(table, report, next, p, i + 1, depth, levels)
 }

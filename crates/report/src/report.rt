@@ -3,14 +3,14 @@ ghost use mathlib.Core.Path.{_≡_};
 ghost use Rattle.rules.specs.Tree.{reportOf, report};
 use crate::balance::put_block;
 use crate::cause::tree_cause;
-use crate::lines::put_under;
+use crate::lines::put_list;
 use rows::fields::last_start;
 use rules::cause::NONE;
-use rules::table::STORE;
 use rules::report::MOST_LEVELS;
 use rules::report::NO_LINES;
 use rules::report::REPORT_LENGTH;
 use rules::report::TOP;
+use rules::table::STORE;
 
 // Back comes the cause, and in `lines` how many lines there are: one for each action.
 pub fn report(
@@ -30,7 +30,7 @@ pub fn report(
         *lines = NO_LINES;
         return cause;
     }
-    put_under(table, out, 0, STORE, TOP, MOST_LEVELS);
+    put_list(table, out, 0, STORE, 1, TOP, MOST_LEVELS - 1);
     put_block(table, base, opening, out);
     *lines = last_start(table);
     NONE

@@ -13,9 +13,9 @@ use rows::fields::is_committed;
 use rows::fields::last_start;
 use rows::fields::own_adds;
 use rows::fields::parent;
+use rules::report::MOST_LEVELS;
 use rules::table::NO_SUM;
 use rules::table::STORE;
-use rules::report::MOST_LEVELS;
 
 // The totals of some children, added up.
 struct Gathered {

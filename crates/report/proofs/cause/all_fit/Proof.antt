@@ -1,42 +1,56 @@
+-- `all_fit` meets its contract: whether a figure is outside is whether one of the accounts from `k` on has such a figure, `k`
+-- the account at the loop's head, and the test decides `k` itself. Assumes nothing.
+use Prim.Native.Nat.{_≤_, _-_}
+use native.Mathlib.Omega.{arith}
+use mathlib.Core.Path.{_≡_, refl, ap, _∙_}
+use mathlib.Core.Bool.{not}
+use borrow.Author.Needs.{needs}
+use Rattle.rules.specs.Range.{upFrom, any}
+use Rattle.rules.specs.Card.{accountCount, firstCharge, chargeAccounts}
+use Rattle.rules.specs.Tree.{isFigureOutside}
+use Rattle.rules.proofs.Laws.Tests.{not-holds, not-fails}
+use Rattle.rules.proofs.Laws.Ranges.{any-left-here, any-left-next, any-left-done}
+use Rattle.rules.proofs.Laws.Negated.{failed, held}
 use Rattle.report.proofs.cause.all_fit.Statement.{statement}
 use Rattle.report.proofs.cause.all_fit.Tie as tie
-use Rattle.report.proofs.cause.all_fit.Reads as reads
-use Rattle.report.proofs.cause.all_fit.Lts as lts
-use Rattle.report.proofs.cause.figures_fit.Reads as figures-fit-reads
 
 abbrev Inv-loop : tie.InvT-loop
-Inv-loop table k₀ k = ?
+Inv-loop table k₀ k =
+    (firstCharge ≤ k) × (k ≤ accountCount)
+    × (any (isFigureOutside table) chargeAccounts ≡ any (isFigureOutside table) (upFrom k (accountCount - k)))
 
 abbrev μ-loop : tie.MeasureT-loop
-μ-loop table k₀ k = ?
+μ-loop table k₀ k = accountCount - k
 
--- src/cause.rt:53:5
 loop-holds : tie.Need-loop-holds Inv-loop μ-loop
-loop-holds c = ?
+unfolding chargeAccounts
+loop-holds c = (omega arith, omega arith, refl)
 
--- src/cause.rt:54:13
 figures-fit-requires : tie.Need-figures-fit-requires Inv-loop μ-loop
-figures-fit-requires c κs = ?
+figures-fit-requires c κs = (c .before .before .before .pre, omega (arith, c .before .loop .inv))
 
--- src/cause.rt:55:13
 returns : tie.Need-returns Inv-loop μ-loop
-returns c = ?
+returns c =
+    let outside = not-fails _ .0 (failed (c .before .figures-fit .ensures) (c .if1 .taken)) in
+    rw (c .before .before .before .loop .inv .2 ∙ any-left-here _ _ _ (c .before .before .loop-test .taken) outside)
 
--- src/cause.rt:53:9
 add-k : tie.Need-add-k Inv-loop μ-loop
-add-k c = ?
+add-k c = search needs
 
--- src/cause.rt:53:5
 loop-less : tie.Need-loop-less Inv-loop μ-loop
-loop-less c = ?
+loop-less c = omega arith
 
--- src/cause.rt:53:5
 loop-again : tie.Need-loop-again Inv-loop μ-loop
-loop-again c = ?
+loop-again c =
+    let left = c .before .before .before .loop .inv .2 in (
+      omega arith,
+      omega arith,
+      let inside = not-holds _ .0 (held (c .before .figures-fit .ensures) (c .if1 .left)) in
+          left ∙ any-left-next _ _ _ (c .before .before .loop-test .taken) inside,
+    )
 
--- src/cause.rt:49:1
 returns-2 : tie.Need-returns-2 Inv-loop μ-loop
-returns-2 c = ?
+returns-2 c = rw (c .before .loop .inv .2 ∙ any-left-done _ _ _ (c .loop-test .left))
 
 pub all-fit-spec : {M : Type 1} → statement M
 all-fit-spec =

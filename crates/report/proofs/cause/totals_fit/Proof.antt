@@ -48,10 +48,11 @@ loop-less c = omega arith
 
 loop-again : tie.Need-loop-again Inv-loop μ-loop
 loop-again c =
-    let tested = ap (λ f. f .fits) (c .before .before .total .ensures) ∙ shown-fits _ _ in (
+    let left = c .before .before .before .before .loop .inv .2 in (
       omega arith,
       omega arith,
-      c .before .before .before .before .loop .inv .2 ∙ all-left-next _ _ _ (c .before .before .before .loop-test .taken) (held tested (c .if1 .left)),
+      let tested = ap (λ f. f .fits) (c .before .before .total .ensures) ∙ shown-fits _ _ in
+          left ∙ all-left-next _ _ _ (c .before .before .before .loop-test .taken) (held tested (c .if1 .left)),
     )
 
 returns-2 : tie.Need-returns-2 Inv-loop μ-loop

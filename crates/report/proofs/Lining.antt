@@ -1,0 +1,120 @@
+-- Lines put into a report, one after the other; and the lines of a parent's children, taken from the front. Assumes nothing.
+use Prim.Native.Nat.{ℕ, suc, _+_, _-_, _*_, _≤_, _<_}
+use native.Mathlib.Omega.{arith}
+use mathlib.Core.Path.{_≡_, refl, sym, ap, ap₂, _∙_}
+use mathlib.Core.Bool.{true, false}
+use mathlib.Core.List.{List, [], _∷_, _++_, flatMap, append-assoc, append-nil}
+use lib.ListN.{length, length-append}
+use lib.Seq.{sets, length-sets}
+use Rattle.rules.specs.Range.{upFrom, filter}
+use Rattle.rules.specs.Card.{chargeAccounts}
+use Rattle.rules.specs.Table.{started, actions, isChildOf}
+use Rattle.rules.specs.Tree.{Line, children, linesWithin, figuresOf, lineLength, lineWords}
+use Rattle.rules.proofs.Laws.Ranges.{left-next, left-done}
+use Rattle.report.specs.Lined.{lineOf, actionLines, childrenFrom, linesFrom, HasLineRoom, IsLined}
+use Rattle.report.proofs.Words.{sets-append}
+
+-- ---- lines put one after the other
+
+module _ (w : List ℕ) where
+  -- the words of lines
+  abbrev pub wordsOf : List Line → List ℕ
+  wordsOf = flatMap (lineWords w)
+
+  one-line : (line : Line) → length (lineWords w line) ≡ lineLength
+  unfolding lineWords figuresOf chargeAccounts upFrom flatMap
+  one-line line = refl
+
+  words-length : (lines : List Line) → length (wordsOf lines) ≡ lineLength * length lines
+  unfolding flatMap
+  words-length [] = refl
+  words-length (line ∷ lines) =
+      omega (arith, length-append (lineWords w line) (wordsOf lines), one-line line, words-length lines)
+
+  words-append : (xs ys : List Line) → wordsOf (xs ++ ys) ≡ wordsOf xs ++ wordsOf ys
+  unfolding flatMap
+  words-append [] ys = refl
+  words-append (x ∷ xs) ys =
+      ap (λ rest. lineWords w x ++ rest) (words-append xs ys) ∙ sym (append-assoc (lineWords w x) (wordsOf xs) (wordsOf ys))
+
+  pub lined-none : (before : List ℕ) (at : ℕ) → IsLined w before at [] before at
+  unfolding flatMap
+  lined-none before at = record { behind = omega arith; leaves = refl }
+
+  pub lined-one :
+      (before : List ℕ) (at : ℕ) (line : Line) (after : List ℕ) → after ≡ sets before at (lineWords w line) →
+      IsLined w before at (line ∷ []) after (at + lineLength)
+  unfolding flatMap
+  lined-one before at line after put =
+      record { behind = omega arith; leaves = put ∙ ap (sets before at) (sym (append-nil (lineWords w line))) }
+
+  pub lined-both :
+      {before : List ℕ} {at : ℕ} {xs : List Line} {between : List ℕ} {middle : ℕ} {ys : List Line} {after : List ℕ} {next : ℕ} →
+      IsLined w before at xs between middle → IsLined w between middle ys after next → IsLined w before at (xs ++ ys) after next
+  lined-both {before} {at} {xs} {between} {middle} {ys} first then =
+      let place : at + length (wordsOf xs) ≡ middle = omega (arith, first .behind, words-length xs) in
+      record {
+        behind = omega (arith, first .behind, then .behind, length-append xs ys);
+        leaves =
+            then .leaves
+            ∙ ap₂ (λ l next. sets l next (wordsOf ys)) (first .leaves) (sym place)
+            ∙ sym (ap (sets before at) (words-append xs ys) ∙ sets-append before at (wordsOf xs) (wordsOf ys));
+      }
+
+  pub lined-length : {before : List ℕ} {at : ℕ} {lines : List Line} {after : List ℕ} {next : ℕ} → IsLined w before at lines after next → length after ≡ length before
+  lined-length {before} {at} {lines} lined = ap length (lined .leaves) ∙ length-sets before at (wordsOf lines)
+
+-- ---- room for them
+
+module _ {words : List ℕ} {at : ℕ} (xs ys : List Line) (all : HasLineRoom words at (xs ++ ys)) where
+  pub room-first : HasLineRoom words at xs
+  room-first = record { whole = all .whole; room = omega (arith, all .room, length-append xs ys) }
+
+  pub room-then : (then : List ℕ) → length then ≡ length words → (middle : ℕ) → middle ≡ at + lineLength * length xs → HasLineRoom then middle ys
+  room-then then same middle behind =
+      record { whole = same ∙ all .whole; room = omega (arith, all .room, length-append xs ys, behind) }
+
+-- ---- the lines of children
+
+module _ (levels : ℕ) (w : List ℕ) (depth p : ℕ) where
+  pub lines-under : linesWithin (suc levels) w depth p ≡ linesFrom levels w depth p 1
+  unfolding linesWithin linesFrom actionLines childrenFrom children actions
+  lines-under =
+      let all : started w ≡ started w + 1 - 1 = omega arith in
+      ap (λ many. flatMap (actionLines levels w depth) (filter (isChildOf w p) (upFrom 1 many))) all
+
+  module _ (i : ℕ) where
+    pub lines-done : started w < i → linesFrom levels w depth p i ≡ []
+    unfolding linesFrom childrenFrom filter flatMap
+    lines-done over = rw (left-done i (started w + 1) (omega arith))
+
+    pub lines-here :
+        i ≤ started w → isChildOf w p i ≡ true → linesFrom levels w depth p i ≡ actionLines levels w depth i ++ linesFrom levels w depth p (i + 1)
+    unfolding linesFrom childrenFrom filter flatMap
+    lines-here within is = rw (left-next i (started w + 1) (omega arith), is)
+
+    pub lines-next : i ≤ started w → isChildOf w p i ≡ false → linesFrom levels w depth p i ≡ linesFrom levels w depth p (i + 1)
+    unfolding linesFrom childrenFrom filter
+    lines-next within isnt = rw (left-next i (started w + 1) (omega arith), isnt)
+
+-- ---- the lines of an action: its own, and those of its children
+
+module _ (w : List ℕ) (depth n : ℕ) where
+  pub line-first :
+      (levels : ℕ) {words : List ℕ} {at : ℕ} → HasLineRoom words at (actionLines levels w depth n) → at + lineLength ≤ length words
+  unfolding actionLines
+  line-first levels room = omega (arith, room .whole, room .room)
+
+  pub lines-of-last : actionLines 0 w depth n ≡ lineOf depth n ∷ []
+  unfolding actionLines linesWithin
+  lines-of-last = refl
+
+  pub lines-of-action :
+      (levels : ℕ) → 1 ≤ levels →
+      actionLines levels w depth n ≡ (lineOf depth n ∷ []) ++ linesFrom (levels - 1) w (depth + 1) n 1
+  unfolding actionLines
+  lines-of-action levels some =
+      let one-more : suc (levels - 1) ≡ levels = omega arith in
+      let deeper : suc depth ≡ depth + 1 = omega arith in
+      ap (λ lines. lineOf depth n ∷ lines)
+      (ap₂ (λ many deep. linesWithin many w deep n) (sym one-more) deeper ∙ lines-under (levels - 1) w (depth + 1) n)
