@@ -5,3 +5,4 @@ mod Decimals
 mod Pieces
 pub mod Bounds
 pub mod AnswerLines
+mod TreePieces
