@@ -6,3 +6,4 @@ mod Pieces
 pub mod Bounds
 pub mod AnswerLines
 mod TreePieces
+pub mod TreeText
