@@ -1,4 +1,4 @@
--- Facts that the proofs of a listing use.
+-- Facts that the proofs of a listing and of a tree use.
 mod CopiedText
 pub mod Texts
 mod Decimals

@@ -36,8 +36,8 @@ put-spaced-requires c κs =
 
 put-byte-requires : tie.Need-put-byte-requires
 put-byte-requires c κs =
-    let later = c .before .before .before .before .before .before in
-    let a = later .before .before .before .before .before .before .before .args in
+    let deep = c .before .before .before .before .before .before .before .before in
+    let a = deep .before .before .before .before .before .args in
     omega (arith, line-length (a .words .now) (a .from))
 
 add-put-state : tie.Need-add-put-state
@@ -51,8 +51,8 @@ shared-slice-read-put-state c = search needs
 
 put-state-requires : tie.Need-put-state-requires
 put-state-requires c κs =
-    let later = c .before .before .before .before .before .before .before .before .before in
-    let a = later .before .before .before .before .before .before .before .before .before .args in
+    let numbered = c .before .before .before .before .before .before .before .before in
+    let a = numbered .before .before .before .before .before .before .before .before .before .before .args in
     omega (arith, line-length (a .words .now) (a .from))
 
 add-put-signeds : tie.Need-add-put-signeds
@@ -60,14 +60,15 @@ add-put-signeds c = search needs
 
 put-signeds-requires : tie.Need-put-signeds-requires
 put-signeds-requires c κs =
-    let later = c .before .before .before .before .before .before .before .before .before .before .before in
-    let a = later .before .before .before .before .before .before .before .before .before .before .before .args in
+    let numbered = c .before .before .before .before .before .before .before .before .before .before .before .before in
+    let a = numbered .before .before .before .before .before .before .before .before .before .before .args in
     (omega arith, omega (arith, line-length (a .words .now) (a .from)))
 
 put-byte-requires-2 : tie.Need-put-byte-requires-2
 put-byte-requires-2 c κs =
-    let later = c .before .before .before .before .before .before .before .before .before .before .before .before .before in
-    let a = later .before .before .before .before .before .before .before .before .before .before .before .before .before .args in
+    let stated = c .before .before .before .before .before .before .before in
+    let numbered = stated .before .before .before .before .before .before .before .before .before in
+    let a = numbered .before .before .before .before .before .before .before .before .before .before .args in
     omega (arith, line-length (a .words .now) (a .from))
 
 same-length : tie.Need-same-length
