@@ -17,14 +17,14 @@ use Rattle.listing.proofs.Decimals.{placeDigits, decimal-bound, place-b
 use Rattle.listing.proofs.Pieces.{line-length, end-length}
 
 -- what holds of both outcomes holds of the one that a test picks
-either : {A : Type 0} (P : A → Type 0) (b : Bool) {x y : A} → P x → P y → P (cond b x y)
+pub either : {A : Type 0} (P : A → Type 0) (b : Bool) {x y : A} → P x → P y → P (cond b x y)
 either P b p q = cond-holds P b (λ _. p) (λ _. q)
 
 -- the letters of the longest word, `committed`
 abbrev mostLetters : ℕ
 mostLetters = 9
 
-abbrev Short : List ℕ → Type 0
+abbrev pub Short : List ℕ → Type 0
 Short word = length word ≤ mostLetters
 
 word-bound : (kind : ℕ) → Short (wordOf kind)

@@ -1,7 +1,9 @@
--- Facts that the proofs of a listing use.
+-- Facts that the proofs of a listing and of a tree use.
 mod CopiedText
 pub mod Texts
 mod Decimals
 mod Pieces
 pub mod Bounds
 pub mod AnswerLines
+mod TreePieces
+pub mod TreeText

@@ -1,3 +1,4 @@
-// The lines of a listing, put into a buffer.
+// The lines of a listing and of a tree, put into a buffer.
 pub mod lines;
 mod text;
+pub mod tree;

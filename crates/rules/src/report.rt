@@ -22,6 +22,9 @@ pub const FIGURES: usize = 2;
 
 pub const TOTAL_AT: usize = 1;
 
+// All figures of a line.
+pub const LINE_FIGURES: usize = 16;
+
 pub const LINE_LENGTH: usize = 19;
 
 // The last block, and its lines: account, opening, sum, closing.
@@ -33,6 +36,11 @@ pub const SUM_AT: usize = 2;
 
 pub const CLOSING_AT: usize = 3;
 
+pub const BALANCE_FIGURES: usize = 3;
+
 pub const BALANCE_LENGTH: usize = 4;
+
+// How many lines it has: one to a charge account.
+pub const BALANCES: usize = 8;
 
 pub const REPORT_LENGTH: usize = 1248;
