@@ -107,6 +107,12 @@ answers-length s file a =
     let many : length (eventBytes file) / eventLength ≡ eventCount file = omega (arith, long) in
     run-length _ _ ∙ events-length (eventBytes file) 0 _ ∙ many
 
+-- no more events than a day file may have
+pub events-few : (s : Ledger) (file : List ℕ) → Accepts s file → length (eventsIn (eventBytes file)) ≤ mostEvents
+unfolding dayRun
+events-few s file a =
+    omega (arith, run-length (ledgerOf newTable (openingBase file) (s .shadow)) (eventsIn (eventBytes file)), answers-length s file a, faultless file (a .clean) .fewEvents)
+
 -- ---- the listing and the state of a day, refused or run
 
 pub day-refused :

@@ -20,7 +20,7 @@ use rules::store::BASE_LENGTH;
 use rules::store::SHADOW_LENGTH;
 use rules::table::TABLE_LENGTH;
 
-fn day_cause(file: &[u8], table: &[u64], base: &[u8], shadow: &[u8]) -> u64
+pub(crate) fn day_cause(file: &[u8], table: &[u64], base: &[u8], shadow: &[u8]) -> u64
     ensures { λ r. ⌜ r
         ≡ dayCause (ledgerOf (now (table .entry)) (now (base .entry)) (now (shadow .entry))) (now (file .entry)) ⌝ }
 {
@@ -45,7 +45,7 @@ fn events_at(file: &[u8]) -> usize
 }
 
 // The events of a file without fault, run on a new table over its opening base store; back comes how many there are.
-fn run_file(
+pub(crate) fn run_file(
     file: &[u8],
     table: &mut [u64],
     base: &mut [u8],

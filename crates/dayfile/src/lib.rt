@@ -1,2 +1,3 @@
-// A whole day: a file read, run on a lent ledger, and listed.
+// A whole day on a lent ledger, and its tree.
 pub mod day;
+pub mod tree;

@@ -1,5 +1,5 @@
 -- What is proved of reports as the functions make them.
 mod Words
 mod Fitting
-mod Causes
+pub mod Causes
 mod Lining

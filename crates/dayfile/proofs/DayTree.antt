@@ -1,0 +1,107 @@
+-- The tree of a day that isn't refused: there is a report, its words give the text, and that is what the definition says.
+-- Assumes nothing.
+use Prim.Native.Nat.{ℕ, _≤_}
+use native.Mathlib.Omega.{arith}
+use mathlib.Core.Path.{_≡_, refl, sym, ap, _∙_}
+use mathlib.Core.Logic.{_≢_}
+use mathlib.Core.Bool.{not}
+use mathlib.Core.List.{List}
+use borrow.Author.Tests.{eqb-true, ne-eqb, not-false}
+use lib.Dec.{eqb}
+use lib.ListN.{length}
+use lib.Seq.{length-sets}
+use Rattle.rules.specs.Card.{baseLength}
+use Rattle.rules.specs.Table.{mostActions}
+use Rattle.rules.specs.Ledger.{Ledger, ledgerOf}
+use Rattle.rules.specs.Encoding.{mostEvents, eventsIn}
+use Rattle.rules.specs.Tree.{linesOf, reportLength, withReport, Report, reportOf, report, treeCause}
+use Rattle.rules.proofs.Laws.Allowed.{not-given}
+use Rattle.rules.proofs.Tree.Lines.{line-for-each, line-started}
+use Rattle.rules.proofs.Tree.Theorem.{reported-of-few}
+use Rattle.report.proofs.Causes.{reportable, totals-are}
+use Rattle.dayread.specs.File.{eventBytes}
+use Rattle.dayread.specs.Opening.{openingBase}
+use Rattle.dayread.proofs.Faultless.{faultless}
+use Rattle.listing.specs.Listing.{refusedLine}
+use Rattle.listing.specs.Buffer.{putAt}
+use Rattle.listing.specs.Tree.{treeText}
+use Rattle.listing.specs.Report.{textOfReport}
+use Rattle.listing.proofs.TreeText.{text-of-report}
+use Rattle.dayfile.specs.Day.{dayCause, Accepts, dayRun}
+use Rattle.dayfile.specs.Tree.{dayTreeCause, HasReport, dayTree, treeTextOf, dayTreeOf, runDayTree}
+use Rattle.dayfile.proofs.Days.{accepts, events-few}
+
+-- ---- a table that has a report
+
+module _ (w base shadow opening : List ℕ) (has : HasReport w base shadow opening) where
+  -- no more lines than actions
+  pub lines-few : length (linesOf w) ≤ mostActions
+  lines-few =
+      let sound = reportable w base shadow opening has .accepted .1 in
+      omega (arith, line-for-each sound, sound .few)
+
+  module _ (buffer : List ℕ) (whole : length buffer ≡ reportLength) {cause lines : ℕ} {words : List ℕ}
+      (given : reportOf cause lines words ≡ report w base shadow opening buffer) where
+    -- what the report gives back
+    reported : report w base shadow opening buffer ≡ reportOf 0 (length (linesOf w)) (withReport buffer w base opening)
+    unfolding report
+    reported = rw has
+
+    pub lines-given : lines ≡ length (linesOf w)
+    lines-given = ap (λ (r : Report). r .lines) (given ∙ reported)
+
+    pub words-given : words ≡ withReport buffer w base opening
+    words-given = ap (λ (r : Report). r .words) (given ∙ reported)
+
+    pub words-whole : length words ≡ reportLength
+    unfolding withReport
+    words-whole = ap length words-given ∙ simp length-sets whole
+
+    -- and the text that its words give
+    pub text-given : textOfReport words lines ≡ treeText w base opening
+    text-given =
+        let may = reportable w base shadow opening has in
+        rw (words-given, lines-given)
+        (text-of-report buffer w base opening whole lines-few
+        (λ line in-tree k charge. totals-are w base shadow opening may (line .number) k (line-started w line in-tree) charge)
+        (may .fit .sums))
+
+-- ---- a day
+
+module _ (s : Ledger) (opening file : List ℕ) where
+  pub tree-accepts : dayTreeCause s opening file ≡ 0 → (length opening ≡ baseLength) × (dayCause s file ≡ 0)
+  unfolding dayTreeCause
+  tree-accepts none =
+      let (right, passed) = not-given (not (eqb (length opening) baseLength)) _ _ none in
+      (eqb-true _ _ (not-false _ right), passed)
+
+  -- a day has too few events for a figure that is no amount
+  pub day-reported :
+      Accepts s file → length (openingBase file) ≡ baseLength →
+      let after = dayRun (s .shadow) file .after in
+      HasReport (after .table) (after .base) (after .shadow) (openingBase file)
+  unfolding dayRun
+  day-reported a opens = reported-of-few (openingBase file) (s .shadow) opens (a .shadowFits) (eventsIn (eventBytes file)) (events-few s file a)
+
+  -- what the call gives back, refused or run
+  pub tree-refused :
+      (buffer : List ℕ) {cause : ℕ} → cause ≡ dayTreeCause s opening file → cause ≢ 0 →
+      dayTreeOf (length (refusedLine cause)) (putAt buffer 0 (refusedLine cause)) s opening ≡ runDayTree s opening file buffer
+  unfolding runDayTree treeTextOf
+  tree-refused buffer {cause} is given = rw (sym is, ne-eqb cause 0 given)
+
+  -- the table, the stores and the opening store as the run and the opening leave them
+  module _ {table base shadow now : List ℕ} (leaves : ledgerOf table base shadow ≡ dayRun (s .shadow) file .after)
+      (isOpening : now ≡ openingBase file) where
+    pub has-report : Accepts s file → length now ≡ baseLength → HasReport table base shadow now
+    has-report a opens =
+        rw (ap (λ (l : Ledger). l .table) leaves, ap (λ (l : Ledger). l .base) leaves, ap (λ (l : Ledger). l .shadow) leaves, isOpening)
+        (day-reported a (ap length (sym isOpening) ∙ opens))
+
+    pub tree-runs :
+        (buffer : List ℕ) {size : ℕ} {out : List ℕ} → dayTreeCause s opening file ≡ 0 → size ≡ length (treeText table base now) →
+        out ≡ putAt buffer 0 (treeText table base now) →
+        dayTreeOf size out (ledgerOf table base shadow) now ≡ runDayTree s opening file buffer
+    unfolding runDayTree treeTextOf dayTree
+    tree-runs buffer none isSize isOut =
+        rw (none, isSize, isOut, leaves, ap (λ (l : Ledger). l .table) leaves, ap (λ (l : Ledger). l .base) leaves, isOpening)
