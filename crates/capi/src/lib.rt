@@ -7,12 +7,15 @@ ghost use Rattle.rules.specs.Ledger.{ledgerOf};
 ghost use Rattle.rules.specs.Event.{eventOf};
 ghost use Rattle.rules.specs.Step.{step};
 ghost use Rattle.rules.specs.Look.{look, lookedCard};
+ghost use Rattle.rules.specs.Tree.{reportOf, report};
 ghost use Rattle.table.specs.Open.{openCause, openTable};
 ghost use Rattle.lists.specs.Listed.{listedOf, runList};
 ghost use Rattle.dayfile.specs.Day.{dayOf, runDay};
+ghost use Rattle.dayfile.specs.Tree.{dayTreeOf, runDayTree};
 ghost use Rattle.capi.specs.Given.{GivesWords, shownIn};
 use rules::cause::NONE;
 use rules::day::LISTING_LENGTH;
+use rules::report::REPORT_LENGTH;
 use rules::store::CARD_LENGTH;
 
 // table::open
@@ -122,4 +125,39 @@ pub extern "C" fn mundzavch_day(
         (now (file .entry)) (now (out .entry)) ⌝ }
 {
     dayfile::day::day(file, table, base, shadow, out)
+}
+
+// report::report
+#[no_mangle]
+pub extern "C" fn mundzavch_tree(
+    table: &[u64],
+    base: &[u8],
+    shadow: &[u8],
+    opening: &[u8],
+    out: &mut [u64; REPORT_LENGTH],
+    lines: &mut u64,
+) -> u64
+    ensures { λ r. ⌜ reportOf r (now (lines .exit)) (now (out .exit))
+        ≡ report (now (table .entry)) (now (base .entry)) (now (shadow .entry)) (now (opening .entry))
+        (now (out .entry)) ⌝ }
+{
+    report::report::report(table, base, shadow, opening, out, lines)
+}
+
+// tree::tree
+#[no_mangle]
+pub extern "C" fn mundzavch_day_tree(
+    file: &[u8],
+    table: &mut [u64],
+    base: &mut [u8],
+    shadow: &mut [u8],
+    opening: &mut [u8],
+    out: &mut [u8; LISTING_LENGTH],
+) -> usize
+    ensures { λ r. ⌜ dayTreeOf r (now (out .exit))
+        (ledgerOf (now (table .exit)) (now (base .exit)) (now (shadow .exit))) (now (opening .exit))
+        ≡ runDayTree (ledgerOf (now (table .entry)) (now (base .entry)) (now (shadow .entry)))
+        (now (opening .entry)) (now (file .entry)) (now (out .entry)) ⌝ }
+{
+    dayfile::tree::tree(file, table, base, shadow, opening, out)
 }

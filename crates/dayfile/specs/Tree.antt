@@ -30,9 +30,10 @@ dayTree shadow file =
     let after = dayRun shadow file .after in
     treeText (after .table) (after .base) (openingBase file)
 
--- the text of a day, which is refused with this cause, or is run where that is 0
-unfoldable pub treeTextOf : ℕ → List ℕ → List ℕ → List ℕ
-treeTextOf cause shadow file = cond (eqb cause 0) (dayTree shadow file) (refusedLine cause)
+-- the text of a day, run or refused
+unfoldable pub treeOfDay : Ledger → List ℕ → List ℕ → List ℕ
+treeOfDay s opening file =
+    cond (eqb (dayTreeCause s opening file) 0) (dayTree (s .shadow) file) (refusedLine (dayTreeCause s opening file))
 
 -- what the call gives back: the text's length, the buffer with the text at its front, the ledger and the opening store
 pub record DayTree : Type 0 where
@@ -47,6 +48,6 @@ dayTreeOf size buffer after opening = record { size = size; buffer = buffer; aft
 unfoldable pub runDayTree : Ledger → List ℕ → List ℕ → List ℕ → DayTree
 runDayTree s opening file buffer =
     let cause = dayTreeCause s opening file in
-    let text = treeTextOf cause (s .shadow) file in
+    let text = treeOfDay s opening file in
     let after = cond (eqb cause 0) (dayRun (s .shadow) file .after) s in
     dayTreeOf (length text) (putAt buffer 0 text) after (cond (eqb cause 0) (openingBase file) opening)

@@ -1,2 +1,2 @@
--- What is known of a listing whose file comes from outside.
+-- What is known of a listing or a tree whose file comes from outside.
 pub mod Printed

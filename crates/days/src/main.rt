@@ -1,5 +1,5 @@
-// Every kind of day, each from a file of data/: its name, then its listing.
-// The expected lines are those of the second engine (`compare/run lines FILE`).
+// Every kind of day, each from a file of data/: its name, then its listing, then its tree.
+// The expected lines are those of the second engine (`compare/run lines FILE`, `compare/run tree FILE`).
 use dayio::STANDARD_OUTPUT;
 
 fn print_day(name: &[u8]) {
@@ -8,6 +8,9 @@ fn print_day(name: &[u8]) {
     let from = os::open_read(name);
     dayio::print_listing(from);
     libc::close(from);
+    let again = os::open_read(name);
+    dayio::print_tree(again);
+    libc::close(again);
 }
 
 fn main() {

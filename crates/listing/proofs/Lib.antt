@@ -5,5 +5,5 @@ mod Decimals
 mod Pieces
 pub mod Bounds
 pub mod AnswerLines
-mod TreePieces
+pub mod TreePieces
 pub mod TreeText

@@ -69,10 +69,11 @@ put-report-requires : tie.Need-put-report-requires
 put-report-requires c κs =
     let opened = c .before .before .before .before .before .before .before in
     let ran = c .before .before .before .before .before .before .before .before .before .before .before .before .before .before .before .before in
-    let clear = c .before .before .before .before .before .before .before .before .before .before .before .before .before .before .before .before .before .before .before .before .before in
-    (has-report (given clear) (opening clear) (file clear) (ran .run-file .ensures .1 .0) (opened .open-base .ensures) (accepted clear)
-    (opened .open-base .kept .1 .0 ∙ tree-accepts (given clear) (opening clear) (file clear) (no-cause clear) .0),
-    search needs)
+    let clear = c .before .before .before .before .before .before .before .before .before .before .before .before .before .before .before .before .before .before .before .before .before in (
+      has-report (given clear) (opening clear) (file clear) (ran .run-file .ensures .1 .0) (opened .open-base .ensures) (accepted clear)
+          (opened .open-base .kept .1 .0 ∙ tree-accepts (given clear) (opening clear) (file clear) (no-cause clear) .0),
+      search needs,
+    )
 
 same-length-5 : tie.Need-same-length-5
 same-length-5 c = search needs
