@@ -1,7 +1,8 @@
--- The worked cases, and a serial run and an R worked through, proved by computing each over a table and stores of full size.
+-- The worked cases, a serial run and an R worked through, and trees, proved by computing each over a table and stores of full
+-- size.
 -- Assumes nothing.
 use mathlib.Core.Path.{_≡_, refl}
-use mathlib.Core.List.{map}
+use mathlib.Core.List.{map, flatMap}
 use Rattle.rules.specs.Range.{upFrom, any, all, count, filter, fold}
 use Rattle.rules.specs.Card.{accounts, chargeAccounts, cardAt, withCard}
 use Rattle.rules.specs.Amount.{amountOf, amountWord, isAmount, isAddable, lowFirst, bytesLowFirst, amountIn, withAmount, baseAmount}
@@ -14,6 +15,7 @@ use Rattle.rules.specs.Look.{lookCause, look}
 use Rattle.rules.specs.Clash.{pairsWith, clashesWith, clashes, least, firstClash}
 use Rattle.rules.specs.Step.{start, startTable, readAnswer, read, readTable, write, writeTable, add, addTable, commit, commitTime, commitCounter, joinTable, commitTable, putCards, settledCard, settledBase, joinedShadow, committedUnder, judged, abort, abortTable, act, step}
 use Rattle.rules.specs.Run.{run}
+use Rattle.rules.specs.Tree.{children, committedChildren, addedUp, totalWithin, totalOf, topSum, linesWithin, linesOf, figuresOf, isFigureOutside, treeCauses, treeCause}
 use Rattle.cases.specs.Case.{resultOf, cases}
 use Rattle.rules.specs.Serial.Effect.{lay, cardOver, sumOver}
 use Rattle.rules.specs.Serial.Collect.{put, commitsAt, laidAll, stepped, collectOne, collectFrom, unknown, storeBlock}
@@ -22,6 +24,7 @@ use Rattle.rules.specs.Serial.Machine.{showsCard, showsSum, showsAmount, settle
 use Rattle.rules.specs.Serial.Starts.{noStarts, withCommits, withStartAt, lineageOne, lineageFrom, lineageOf, isInR}
 use Rattle.cases.specs.Example.{example, exampleRun, exampleExpected}
 use Rattle.cases.specs.InR.{nested, nestedInR, nestedExpected}
+use Rattle.cases.specs.Trees.{treeAfter, treeEvents, treesExpected}
 
 pub cases-hold : map (λ c. resultOf (c .question)) cases ≡ map (λ c. c .expected) cases
 unfolding upFrom any all count filter fold accounts chargeAccounts cardAt withCard amountOf amountWord isAmount isAddable lowFirst bytesLowFirst amountIn withAmount baseAmount word withWord withFields withoutAdds newTable hasWrites withSets actions hasLiveChild isRecordOf records walkUp isAtOrBelow hasReadInTime hasEndAlone hasPendingWritten isSoundAction sound commitSum isCommitOutside isReadOutside areOutside storeCauses earlyCauses lateCauses causesOf causeOf nearest movesUp readSum lookCause look pairsWith clashesWith clashes least firstClash start startTable readAnswer read readTable write writeTable add addTable commit commitTime commitCounter joinTable commitTable putCards settledCard settledBase joinedShadow committedUnder judged abort abortTable act step run resultOf cases
@@ -36,3 +39,8 @@ example-holds = refl
 pub nested-holds : nestedInR ≡ nestedExpected
 unfolding upFrom any all count filter fold accounts chargeAccounts cardAt withCard amountOf amountWord isAmount isAddable lowFirst bytesLowFirst amountIn withAmount baseAmount word withWord withFields withoutAdds newTable hasWrites withSets actions hasLiveChild isRecordOf records walkUp isAtOrBelow hasReadInTime hasEndAlone hasPendingWritten isSoundAction sound commitSum isCommitOutside isReadOutside areOutside storeCauses earlyCauses lateCauses causesOf causeOf nearest movesUp readSum pairsWith clashesWith clashes least firstClash start startTable readAnswer read readTable write writeTable add addTable commit commitTime commitCounter joinTable commitTable putCards settledCard settledBase joinedShadow committedUnder judged abort abortTable act step run put commitsAt noStarts withCommits withStartAt lineageOne lineageFrom lineageOf isInR nested nestedInR nestedExpected
 nested-holds = refl
+
+-- the trees of specs/Trees.antt
+pub trees-hold : map treeAfter treeEvents ≡ treesExpected
+unfolding upFrom any all count filter fold accounts chargeAccounts cardAt withCard amountOf amountWord isAmount isAddable lowFirst bytesLowFirst amountIn withAmount baseAmount word withWord withFields withoutAdds newTable hasWrites withSets actions hasLiveChild isRecordOf records walkUp isAtOrBelow hasReadInTime hasEndAlone hasPendingWritten isSoundAction sound commitSum isCommitOutside isReadOutside areOutside storeCauses earlyCauses lateCauses causesOf causeOf nearest movesUp readSum pairsWith clashesWith clashes least firstClash start startTable readAnswer read readTable write writeTable add addTable commit commitTime commitCounter joinTable commitTable putCards settledCard settledBase joinedShadow committedUnder judged abort abortTable act step run flatMap children committedChildren addedUp totalWithin totalOf topSum linesWithin linesOf figuresOf isFigureOutside treeCauses treeCause treeAfter treeEvents treesExpected
+trees-hold = refl

@@ -1,4 +1,5 @@
--- The worked cases, and a serial run and an R worked through.
+-- The worked cases, a serial run and an R worked through, and trees.
 pub mod Case
 pub mod Example
 pub mod InR
+pub mod Trees

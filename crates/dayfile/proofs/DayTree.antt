@@ -17,7 +17,7 @@ use Rattle.rules.specs.Ledger.{Ledger, ledgerOf}
 use Rattle.rules.specs.Encoding.{mostEvents, eventsIn}
 use Rattle.rules.specs.Tree.{linesOf, reportLength, withReport, Report, reportOf, report, treeCause}
 use Rattle.rules.proofs.Laws.Allowed.{not-given}
-use Rattle.rules.proofs.Tree.Lines.{line-for-each, line-started}
+use Rattle.rules.proofs.Tree.Lines.{line-for-each, line-placed}
 use Rattle.rules.proofs.Tree.Theorem.{reported-of-few}
 use Rattle.report.proofs.Causes.{reportable, totals-are}
 use Rattle.dayread.specs.File.{eventBytes}
@@ -68,7 +68,7 @@ module _ (w base shadow opening : List ℕ) (has : HasReport w base shadow openi
         let may = reportable w base shadow opening has in
         rw (words-given, lines-given)
         (text-of-report buffer w base opening whole lines-few
-        (λ line in-tree k charge. totals-are w base shadow opening may (line .number) k (line-started w line in-tree) charge)
+        (λ line in-tree k charge. totals-are w base shadow opening may (line .number) k (line-placed (may .accepted .1) line in-tree .0) charge)
         (may .fit .sums))
 
   -- the text fits the buffer

@@ -40,6 +40,8 @@ fn main() {
     print_day(b"charges.day");
     print_day(b"depot-totals.day");
     print_day(b"sums-at-the-ends.day");
+    print_day(b"tree.day");
+    print_day(b"given-up-adds.day");
     print_day(b"no-events.day");
     print_day(b"nothing.day");
     print_day(b"mixed-1.day");

@@ -18,7 +18,7 @@ use Rattle.rules.specs.Ledger.{Ledger}
 use Rattle.rules.specs.Serial.Effect.{nothing, puts, adds, lay}
 use Rattle.rules.proofs.Laws.Tests.{test, and-left, and-right, and-both, and-holds, cond-holds}
 use Rattle.rules.proofs.Laws.Amounts.{amount-zero}
-use Rattle.rules.proofs.Laws.Walking.{walk-store, walk-step, Climbs, parent-known, depth, depth-step, sound-climbs}
+use Rattle.rules.proofs.Laws.Walking.{walk-store, walk-step, Climbs, parent-known, movesToStore, movesToStore-step, sound-climbs}
 use Rattle.rules.proofs.Serial.Values.{over, hides}
 use Rattle.rules.proofs.Serial.AbstractState.{Tree}
 use Rattle.rules.proofs.Serial.Ground.{ChargesSeen}
@@ -177,11 +177,11 @@ module _ (s : Ledger) (proper : Proper s) where
   action-climbs : (X : ℕ) → IsStarted (s .table) X → (X ≢ 0) × Climbs (s .table) X
   action-climbs X begun = (λ z. omega (arith, begun), sound-climbs (proper .sound) X (begun .1))
 
-  deeper-than-parent : (X : ℕ) → IsStarted (s .table) X → depth (s .table) (parentOf (s .table) X) < depth (s .table) X
+  deeper-than-parent : (X : ℕ) → IsStarted (s .table) X → movesToStore (s .table) (parentOf (s .table) X) < movesToStore (s .table) X
   deeper-than-parent X begun =
-      let (ne, up) = action-climbs X begun in rw (depth-step (s .table) X ne up) (omega arith)
+      let (ne, up) = action-climbs X begun in rw (movesToStore-step (s .table) X ne up) (omega arith)
 
-  -- the rank is the depth
+  -- the rank is the moves up to the store
   pub abstract-tree : Tree (abstraction s)
   abstract-tree =
       record {
@@ -189,6 +189,6 @@ module _ (s : Ledger) (proper : Proper s) where
         store-view = view-store s;
         parent-held = parent-alive;
         live-view = λ X l k. let (ne, up) = action-climbs X (alive-started (s .table) X l) in view-step s X k ne up;
-        rank = depth (s .table);
+        rank = movesToStore (s .table);
         rank-falls = λ X l. deeper-than-parent X (alive-started (s .table) X l);
       }

@@ -12,7 +12,7 @@ use Rattle.rules.specs.Amount.{baseAmount}
 use Rattle.rules.specs.Table.{mostActions, parentOf, hasWritten, hasCard, pendingSum}
 use Rattle.rules.specs.Nearest.{nearest, movesUp, readSum}
 use Rattle.rules.specs.Cause.{commitSum}
-use Rattle.rules.proofs.Laws.Walking.{walk-store, walk-step, Climbs, climb-holds, depth, nearest-store, nearest-step}
+use Rattle.rules.proofs.Laws.Walking.{walk-store, walk-step, Climbs, climb-holds, movesToStore, nearest-store, nearest-step}
 use Rattle.rules.proofs.Laws.Versions.{moves-to-base}
 
 -- ---- what an action sees of charge account k
@@ -53,5 +53,5 @@ module _ (w : List ℕ) where
   nearest-charge k charge =
       climb-holds w (λ n. nearest w n k ≡ 0) (nearest-store w k) (λ n ne up above. nearest-step w n k ne up ∙ rw charge above)
 
-  pub movesUp-charge : (k : ℕ) → isCharge k ≡ true → (n : ℕ) → Climbs w n → movesUp w n k ≡ depth w n
+  pub movesUp-charge : (k : ℕ) → isCharge k ≡ true → (n : ℕ) → Climbs w n → movesUp w n k ≡ movesToStore w n
   movesUp-charge k charge n up = moves-to-base w k n up (nearest-charge k charge n up)

@@ -11,7 +11,7 @@ use Rattle.rules.specs.Table.{mostActions, started, parentOf, hasCard}
 use Rattle.rules.specs.Nearest.{nearest, movesUp, version, climbed, IsNearest}
 use Rattle.rules.specs.Sound.{Sound}
 use Rattle.rules.proofs.Laws.Tests.{cond-holds}
-use Rattle.rules.proofs.Laws.Walking.{walk-store, walk-step, walk-counts, Climbs, climb-holds, sound-climbs, depth, depth-store, depth-step, nearest-store, nearest-step}
+use Rattle.rules.proofs.Laws.Walking.{walk-store, walk-step, walk-counts, Climbs, climb-holds, sound-climbs, movesToStore, movesToStore-store, movesToStore-step, nearest-store, nearest-step}
 
 module _ (w : List ℕ) (k : ℕ) where
   pub movesUp-store : movesUp w 0 k ≡ 0
@@ -99,17 +99,17 @@ nearest-unique {w} {n} {k} {v} {u} a b =
     let holders = sym (a .leads) ∙ ap (λ m. climbed w m n) same ∙ b .leads in
     ap₂ (λ h m. record { holder = h; moves = m }) holders same
 
--- ---- the depth
+-- ---- the moves up to the store
 
 module _ (w : List ℕ) (k : ℕ) where
   -- so many moves up an action lies that much less deep
-  moves-and-depth : (n : ℕ) → Climbs w n → movesUp w n k + depth w (nearest w n k) ≡ depth w n
-  moves-and-depth =
-      version-holds w k (λ n v. v .moves + depth w (v .holder) ≡ depth w n)
+  moves-and-rest : (n : ℕ) → Climbs w n → movesUp w n k + movesToStore w (nearest w n k) ≡ movesToStore w n
+  moves-and-rest =
+      version-holds w k (λ n v. v .moves + movesToStore w (v .holder) ≡ movesToStore w n)
       (omega arith)
       (λ n _. omega arith)
-      (λ n ne up _ v above. omega (arith, above, depth-step w n ne up))
+      (λ n ne up _ v above. omega (arith, above, movesToStore-step w n ne up))
 
   -- RULES 3.1: to the base card it is as many moves up as the action lies deep
-  pub moves-to-base : (n : ℕ) → Climbs w n → nearest w n k ≡ 0 → movesUp w n k ≡ depth w n
-  moves-to-base n up base = omega (arith, ap (depth w) base, depth-store w, moves-and-depth n up)
+  pub moves-to-base : (n : ℕ) → Climbs w n → nearest w n k ≡ 0 → movesUp w n k ≡ movesToStore w n
+  moves-to-base n up base = omega (arith, ap (movesToStore w) base, movesToStore-store w, moves-and-rest n up)

@@ -1,4 +1,4 @@
--- Going up the parents. A bound on the moves that leads to the store makes no difference; so the nearest version, the depth,
+-- Going up the parents. A bound on the moves that leads to the store makes no difference; so the nearest version, the moves up
 -- and what is at or below an action follow from the action and its parent. Assumes nothing.
 use Prim.Native.Nat.{ℕ, zero, suc, _≤_, _<_}
 use native.Mathlib.Omega.{arith}
@@ -120,18 +120,18 @@ started-climbs w few falls n known = falling-climbs (parentOf w) (started w) fal
 pub sound-climbs : {w : List ℕ} → Sound w → (n : ℕ) → n ≤ started w → Climbs w n
 sound-climbs {w} s = started-climbs w (s .few) (s .below)
 
--- ---- the depth: 0 of the store, 1 of a topaction, and so on
+-- ---- the moves up to the store: 0 of the store itself, 1 of a topaction, and so on
 
-unfoldable pub depth : List ℕ → ℕ → ℕ
-depth w n = walkUp (parentOf w) 0 (λ m above. suc above) mostActions n
+unfoldable pub movesToStore : List ℕ → ℕ → ℕ
+movesToStore w n = walkUp (parentOf w) 0 (λ m above. suc above) mostActions n
 
-pub depth-store : (w : List ℕ) → depth w 0 ≡ 0
-unfolding depth
-depth-store w = walk-store _ _ _ mostActions
+pub movesToStore-store : (w : List ℕ) → movesToStore w 0 ≡ 0
+unfolding movesToStore
+movesToStore-store w = walk-store _ _ _ mostActions
 
-pub depth-step : (w : List ℕ) (n : ℕ) → n ≢ 0 → Climbs w n → depth w n ≡ suc (depth w (parentOf w n))
-unfolding depth
-depth-step w n = walk-step _ _ _ mostActions n
+pub movesToStore-step : (w : List ℕ) (n : ℕ) → n ≢ 0 → Climbs w n → movesToStore w n ≡ suc (movesToStore w (parentOf w n))
+unfolding movesToStore
+movesToStore-step w n = walk-step _ _ _ mostActions n
 
 -- ---- the nearest version
 

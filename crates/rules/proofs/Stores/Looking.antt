@@ -16,7 +16,7 @@ use Rattle.rules.specs.Cause.{areOutside, storeCauses, earlyCauses, late
 use Rattle.rules.specs.Nearest.{nearest, version}
 use Rattle.rules.specs.Look.{Looked, lookCause, Part, emptyPart, lookAt, look, bytesIn, lookedCard}
 use Rattle.rules.proofs.Laws.Tests.{cond-holds}
-use Rattle.rules.proofs.Laws.Walking.{sound-climbs, depth, nearest-started}
+use Rattle.rules.proofs.Laws.Walking.{sound-climbs, movesToStore, nearest-started}
 use Rattle.rules.proofs.Laws.Charges.{nearest-charge, movesUp-charge}
 use Rattle.rules.proofs.Sound.Soundness.{facts}
 use Rattle.rules.proofs.Laws.Allowed.{Allowed, allowed}
@@ -65,7 +65,7 @@ look-inside w base shadow n k h =
 
 -- RULES 3.4: of a charge account it shows the base card, as many moves up as the action lies deep
 module _ (w base shadow : List ℕ) (n k : ℕ) (given : lookCause w base shadow n k ≡ 0) (charge : isCharge k ≡ true) where
-  pub look-charge : look w base shadow n k ≡ lookAt (record { holder = 0; moves = depth w n }) k
+  pub look-charge : look w base shadow n k ≡ lookAt (record { holder = 0; moves = movesToStore w n }) k
   look-charge =
       let a = read-allowed w base shadow n k given in
       let up = sound-climbs (facts w (a .soundTest)) n (a .early .numberKnown) in

@@ -21,7 +21,7 @@ use Rattle.rules.specs.Step.{Outcome, start, readAnswer, read, write, ju
 use Rattle.rules.proofs.Laws.Allowed.{allowed-none}
 use Rattle.rules.proofs.Laws.EventCases.{AllowedIn, step-by-cause, act-by-kind}
 use Rattle.rules.proofs.Laws.Permitted.{read-fits, read-sum-fits}
-use Rattle.rules.proofs.Laws.Walking.{Climbs, sound-climbs, depth}
+use Rattle.rules.proofs.Laws.Walking.{Climbs, sound-climbs, movesToStore}
 use Rattle.rules.proofs.Laws.Versions.{version-nearest}
 use Rattle.rules.proofs.Laws.Charges.{nearest-charge, movesUp-charge}
 use Rattle.rules.proofs.Laws.Amounts.{amount-read-back}
@@ -137,7 +137,7 @@ pub record IsSumRead (s : Ledger) (n k : ℕ) (v : Version) (x : ℕ) : Type 0 w
   pub looked : look (s .table) (s .base) (s .shadow) n k ≡ lookAt v k
   pub card : lookedCard (s .table) (s .base) (s .shadow) n k ≡ cardAt (s .base) (basePlace k)
   pub holder : v .holder ≡ 0
-  pub moves : v .moves ≡ depth (s .table) n
+  pub moves : v .moves ≡ movesToStore (s .table) n
   pub word : x ≡ amountWord (readSum (s .table) (s .base) n k)
   pub exact : amountOf x ≡ readSum (s .table) (s .base) n k
 

@@ -1,17 +1,20 @@
--- RULES 12.3: a report has a line for each action of a sound table, and no other line. Assumes nothing.
+-- RULES 12.3: a report has a line for each action of a sound table, and no other line; and how deep each lies. Assumes
+-- nothing.
 use Prim.Native.Nat.{ℕ, zero, suc, _+_}
 use native.Mathlib.Omega.{arith}
 use mathlib.Core.Path.{_≡_, refl, sym, ap, _∙_}
 use mathlib.Core.Logic.{⊎-elim}
 use mathlib.Core.Bool.{Bool, true, false, cond}
 use mathlib.Core.List.{List, [], _∷_, flatMap, List·Memᴰ, List·Memᴰ·head, List·Memᴰ·tail, List·Memᴰ·not-nil, List·Memᴰ·cases-cons, List·Memᴰ·append-cases}
+use borrow.Author.Tests.{eqb-true}
 use lib.ListN.{length, length-append}
 use Rattle.rules.specs.Range.{upFrom, filter}
-use Rattle.rules.specs.Table.{mostActions, started, actions, isChildOf}
+use Rattle.rules.specs.Table.{mostActions, started, parentOf, actions, isChildOf}
 use Rattle.rules.specs.Sound.{IsStarted, Sound}
 use Rattle.rules.specs.Tree.{Line, children, linesWithin, linesOf}
 use Rattle.rules.proofs.Laws.Tests.{cond-same}
 use Rattle.rules.proofs.Laws.Ranges.{filter-only}
+use Rattle.rules.proofs.Laws.Walking.{sound-climbs, movesToStore, movesToStore-store, movesToStore-step}
 use Rattle.rules.proofs.Tree.Numbers.{sumOf, sumOf-agree, sumOf-nothing}
 use Rattle.rules.proofs.Tree.Held.{ofChildren, held, held-by-all}
 
@@ -63,19 +66,32 @@ in-each P f (x ∷ xs) holds line m =
     (in-each P f xs (λ y h. holds y (List·Memᴰ·tail h)) line)
     (List·Memᴰ·append-cases (f x) m)
 
-started-within :
-    (w : List ℕ) (levels depth p : ℕ) (line : Line) → List·Memᴰ line (linesWithin levels w depth p) → IsStarted w (line .number)
-unfolding linesWithin children actions
-started-within w zero depth p line m = absurd (List·Memᴰ·not-nil m)
-started-within w (suc levels) depth p line m =
-    in-each (λ line. IsStarted w (line .number)) _ (children w p)
-    (λ n child shown here.
-    ⊎-elim
-    (λ own. let known = filter-only (isChildOf w p) 1 (started w) n child .0 in rw own (omega (arith, known)))
-    (started-within w levels (suc depth) n shown)
-    (List·Memᴰ·cases-cons here))
-    line m
+-- every line is that of an action, and its depth is one fewer than the moves up to the store
+module _ {w : List ℕ} (s : Sound w) where
+  abbrev Placed : Line → Type 0
+  Placed line = IsStarted w (line .number) × (movesToStore w (line .number) ≡ suc (line .depth))
 
-pub line-started : (w : List ℕ) (line : Line) → List·Memᴰ line (linesOf w) → IsStarted w (line .number)
-unfolding linesOf
-line-started w = started-within w mostActions 0 0
+  -- a child of p lies one move further from the store
+  child-placed :
+      (p n : ℕ) {depth : ℕ} → movesToStore w p ≡ depth → List·Memᴰ n (children w p) → IsStarted w n × (movesToStore w n ≡ suc depth)
+  unfolding children actions
+  child-placed p n up child =
+      let (within, is) = filter-only (isChildOf w p) 1 (started w) n child in
+      let known : IsStarted w n = omega arith in
+      let step = movesToStore-step w n (λ z. omega arith) (sound-climbs s n (known .1)) in
+      (known, step ∙ ap (λ q. suc (movesToStore w q)) (eqb-true (parentOf w n) p is) ∙ ap suc up)
+
+  placed-within :
+      (levels depth p : ℕ) → movesToStore w p ≡ depth → (line : Line) → List·Memᴰ line (linesWithin levels w depth p) → Placed line
+  unfolding linesWithin
+  placed-within zero depth p up line m = absurd (List·Memᴰ·not-nil m)
+  placed-within (suc levels) depth p up line m =
+      in-each Placed _ (children w p)
+      (λ n child shown here.
+      let placed = child-placed p n up child in
+      ⊎-elim (λ own. rw own placed) (placed-within levels (suc depth) n (placed .1) shown) (List·Memᴰ·cases-cons here))
+      line m
+
+  pub line-placed : (line : Line) → List·Memᴰ line (linesOf w) → Placed line
+  unfolding linesOf
+  line-placed = placed-within mostActions 0 0 (movesToStore-store w)
