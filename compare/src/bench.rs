@@ -27,7 +27,7 @@ const ADDED_AMOUNT: i64 = 5;
 const FREE_ACCOUNT: u64 = CHARGE_ACCOUNT - 1;
 const CHARGE_ACCOUNT: u64 = FIRST_CHARGE as u64;
 /// How deep actions lie where that is measured.
-const DEPTHS: [u64; 3] = [1, 10, ACTIONS as u64];
+const MOVES: [u64; 3] = [1, 10, ACTIONS as u64];
 /// Where an event has no use for an account.
 const NO_ACCOUNT: u64 = 0;
 
@@ -136,12 +136,12 @@ fn siblings(count: u64) -> Ledger {
 }
 
 /// One below the other; the first alone has written account 0 and added to a charge account.
-fn chain(depth: u64) -> Ledger {
+fn chain(actions: u64) -> Ledger {
     let mut w = new_world();
     done(&mut w, &of(EVENT_START, STORE, NO_ACCOUNT));
     done(&mut w, &of(EVENT_WRITE, 1, 0));
     done(&mut w, &add(1, CHARGE_ACCOUNT));
-    for n in 1..depth {
+    for n in 1..actions {
         done(&mut w, &of(EVENT_START, n, NO_ACCOUNT));
     }
     w
@@ -174,23 +174,23 @@ fn single_events(rows: &mut Vec<Row>) {
 }
 
 fn charge_reads(rows: &mut Vec<Row>) {
-    for depth in DEPTHS {
-        let read = of(EVENT_READ, depth, CHARGE_ACCOUNT);
-        rows.push(repeated(&format!("a read of a charge account, depth: {depth}"), chain(depth), read));
+    for moves in MOVES {
+        let read = of(EVENT_READ, moves, CHARGE_ACCOUNT);
+        rows.push(repeated(&format!("a read of a charge account, moves up: {moves}"), chain(moves), read));
     }
 }
 
 fn looks(rows: &mut Vec<Row>) {
-    for depth in DEPTHS {
-        let ledger = chain(depth);
+    for moves in MOVES {
+        let ledger = chain(moves);
         let lent = lend(&ledger);
         rows.push(measure(
-            &format!("a look, depth: {depth}"),
+            &format!("a look, moves up: {moves}"),
             &mut || {
-                black_box(lent.look(depth, 0)).ok();
+                black_box(lent.look(moves, 0)).ok();
             },
             &mut || {
-                black_box(ledger.look(depth, 0)).ok();
+                black_box(ledger.look(moves, 0)).ok();
             },
         ));
     }

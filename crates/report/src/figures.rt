@@ -23,8 +23,10 @@ fn put_account(table: &[u64], report: &mut [u64], at: usize, n: u64, k: u64)
     ensures { λ r. ⌜ now (report .exit)
         ≡ sets (now (report .entry)) at (map amountWord (accountFigures (now (table .entry)) n k)) ⌝ }
 {
-    report[at] = own_adds(table, n, k);
-    report[at + TOTAL_AT] = total(table, n, k, MOST_LEVELS).word;
+    let own = own_adds(table, n, k);
+    let all = total(table, n, k, MOST_LEVELS).word;
+    report[at] = own;
+    report[at + TOTAL_AT] = all;
 }
 
 pub(crate) fn put_figures(table: &[u64], report: &mut [u64], from: usize, n: u64)

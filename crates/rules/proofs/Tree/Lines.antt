@@ -49,7 +49,7 @@ ones a (suc n) = omega (arith, ones (suc a) n)
 
 pub line-for-each : {w : List ℕ} → Sound w → length (linesOf w) ≡ started w
 unfolding linesOf actions
-line-for-each {w} s = lines-within w mostActions 0 0 ∙ held-by-all s (λ m. 1) ∙ ones 1 (started w)
+line-for-each {w} s = lines-within w mostActions _ 0 ∙ held-by-all s (λ m. 1) ∙ ones 1 (started w)
 
 -- ---- whose lines they are
 

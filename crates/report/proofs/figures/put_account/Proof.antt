@@ -10,14 +10,14 @@ use Rattle.report.proofs.figures.put_account.Tie as tie
 own-adds-requires : tie.Need-own-adds-requires
 own-adds-requires c κs = search needs
 
+total-requires : tie.Need-total-requires
+total-requires c κs = search needs
+
 mul-report : tie.Need-mul-report
 mul-report c = search needs
 
 slice-write-report : tie.Need-slice-write-report
 slice-write-report c = search needs
-
-total-requires : tie.Need-total-requires
-total-requires c κs = search needs
 
 add-report : tie.Need-add-report
 add-report c = search needs
@@ -48,9 +48,9 @@ put-account-spec =
     tie.close
     (tie.spec
     own-adds-requires
+    total-requires
     mul-report
     slice-write-report
-    total-requires
     add-report
     mul-report-2
     slice-write-report-2
