@@ -6,8 +6,9 @@
  * be any: a wrong one is refused, as is any content. A call that is refused leaves the table and both stores as they
  * were. No call fails in another way.
  *
- * Stack that a call takes: about 37 KB for a day; about 4.6 KB for an event or a list and 3.2 KB for a look where
- * actions lie 64 deep, as the walk up the parents calls itself.
+ * Stack that a call takes: about 37 KB for a day; about 4.6 KB for an event or a list and 3.2 KB for a look where 64
+ * actions lie one below the other, as the walk up the parents calls itself. There a tree takes about 510 KB and a day's
+ * tree 550 KB: its walk calls itself for each level and, within a level, for each number up to the child's.
  *
  * Numbers of the refusals:
  *    1  the base store is not 1,024 bytes, or the shadow store not 65,536
@@ -25,8 +26,8 @@
  *   13  an add to an account below 24, or a write to one from 24 on
  *   14  an add of an amount below -1,000,000 or above 1,000,000
  *   15  a sum that 64 signed bits do not hold: the pending sum or the own adds that an add would leave, the sum that a
- *       read would give, or one that a commit without a clash would leave at the parent, and the action stays live; or a
- *       total or a sum of a tree
+ *       read would give, or one that a commit without a clash would leave at the parent, where the action stays live;
+ *       or a total or a sum of a tree
  * An event's refusals are asked in the order 1 to 8, 13, 14, 9, 15, and the first that applies is given. A list asks 1,
  * 2, then 10. A day asks 1, then 2 for the table's length alone, then its file, in an order of its own: 10 where it is
  * empty, 11 for the count of cards, 10 where it ends before the count of events, 11 for that count, 10 for its length,
@@ -59,8 +60,8 @@ extern "C" {
 #define MUNDZAVCH_ANSWER_WORDS 4      /* in a list's answers: kind, first, second, third */
 #define MUNDZAVCH_LISTING_BYTES 81920 /* every day's listing fits, and every day's tree */
 #define MUNDZAVCH_REPORT_WORDS 1248   /* in the report of a tree */
-#define MUNDZAVCH_LINE_WORDS 19       /* of it in an action's line: depth, number, state, then own adds and total of each
-                                         of the accounts 24 to 31 */
+#define MUNDZAVCH_LINE_WORDS 19       /* in an action's line there: depth, number, state, then own adds and total of
+                                         each of the accounts 24 to 31 */
 #define MUNDZAVCH_BLOCK_AT 1216       /* where its last block begins */
 #define MUNDZAVCH_BLOCK_WORDS 4       /* in a line of the last block: account, opening, sum, closing */
 

@@ -15,7 +15,7 @@ use Rattle.rules.specs.Look.{lookCause, look}
 use Rattle.rules.specs.Clash.{pairsWith, clashesWith, clashes, least, firstClash}
 use Rattle.rules.specs.Step.{start, startTable, readAnswer, read, readTable, write, writeTable, add, addTable, commit, commitTime, commitCounter, joinTable, commitTable, putCards, settledCard, settledBase, joinedShadow, committedUnder, judged, abort, abortTable, act, step}
 use Rattle.rules.specs.Run.{run}
-use Rattle.rules.specs.Tree.{children, committedChildren, addedUp, totalWithin, totalOf, topSum, linesWithin, linesOf, figuresOf, isFigureOutside, treeCauses, treeCause}
+use Rattle.rules.specs.Tree.{children, committedChildren, addedUp, totalWithin, totalOf, topSum, linesWithin, treeLines, figuresOf, isFigureOutside, treeCauses, treeCause}
 use Rattle.cases.specs.Case.{resultOf, cases}
 use Rattle.rules.specs.Serial.Effect.{lay, cardOver, sumOver}
 use Rattle.rules.specs.Serial.Collect.{put, commitsAt, laidAll, stepped, collectOne, collectFrom, unknown, storeBlock}
@@ -42,5 +42,5 @@ nested-holds = refl
 
 -- the trees of specs/Trees.antt
 pub trees-hold : map treeAfter treeEvents ≡ treesExpected
-unfolding upFrom any all count filter fold accounts chargeAccounts cardAt withCard amountOf amountWord isAmount isAddable lowFirst bytesLowFirst amountIn withAmount baseAmount word withWord withFields withoutAdds newTable hasWrites withSets actions hasLiveChild isRecordOf records walkUp isAtOrBelow hasReadInTime hasEndAlone hasPendingWritten isSoundAction sound commitSum isCommitOutside isReadOutside areOutside storeCauses earlyCauses lateCauses causesOf causeOf nearest movesUp readSum pairsWith clashesWith clashes least firstClash start startTable readAnswer read readTable write writeTable add addTable commit commitTime commitCounter joinTable commitTable putCards settledCard settledBase joinedShadow committedUnder judged abort abortTable act step run flatMap children committedChildren addedUp totalWithin totalOf topSum linesWithin linesOf figuresOf isFigureOutside treeCauses treeCause treeAfter treeEvents treesExpected
+unfolding upFrom any all count filter fold accounts chargeAccounts cardAt withCard amountOf amountWord isAmount isAddable lowFirst bytesLowFirst amountIn withAmount baseAmount word withWord withFields withoutAdds newTable hasWrites withSets actions hasLiveChild isRecordOf records walkUp isAtOrBelow hasReadInTime hasEndAlone hasPendingWritten isSoundAction sound commitSum isCommitOutside isReadOutside areOutside storeCauses earlyCauses lateCauses causesOf causeOf nearest movesUp readSum pairsWith clashesWith clashes least firstClash start startTable readAnswer read readTable write writeTable add addTable commit commitTime commitCounter joinTable commitTable putCards settledCard settledBase joinedShadow committedUnder judged abort abortTable act step run flatMap children committedChildren addedUp totalWithin totalOf topSum linesWithin treeLines figuresOf isFigureOutside treeCauses treeCause treeAfter treeEvents treesExpected
 trees-hold = refl

@@ -7,9 +7,9 @@ use lib.ListN.{replicate}
 use Rattle.rules.specs.Card.{baseLength, shadowLength, basePlace, withCard, chargeAccounts}
 use Rattle.rules.specs.Table.{newTable, live, committed, aborted, stateOf}
 use Rattle.rules.specs.Event.{Event, startUnder, commitOf, abortOf}
-use Rattle.rules.specs.Ledger.{Ledger, ledgerOf}
+use Rattle.rules.specs.Ledger.{ledgerOf}
 use Rattle.rules.specs.Run.{run}
-use Rattle.rules.specs.Tree.{Line, linesOf, figuresOf, balanceOf, treeCause}
+use Rattle.rules.specs.Tree.{Line, treeLines, figuresOf, balanceOf, treeCause}
 use Rattle.cases.specs.Case.{amountCard, adding, taking}
 
 -- a line: how deep the action lies, its number, its state, and its figures
@@ -45,7 +45,7 @@ treeAfter es =
     let s = run (ledgerOf newTable opening (replicate shadowLength 0)) es .after in
     record {
       cause = treeCause (s .table) (s .base) (s .shadow) opening;
-      rows = map (rowOf (s .table)) (linesOf (s .table));
+      rows = map (rowOf (s .table)) (treeLines (s .table));
       balances = map (balanceOf (s .table) (s .base) opening) chargeAccounts;
     }
 

@@ -3,7 +3,7 @@
 use Prim.Native.Nat.{ℕ, _≤_}
 use native.Mathlib.Decide.{ℕ-discrete}
 use native.Mathlib.Omega.{arith}
-use mathlib.Core.Path.{_≡_, refl, sym, ap, _∙_}
+use mathlib.Core.Path.{_≡_, sym, ap, _∙_}
 use mathlib.Core.Logic.{_≢_}
 use mathlib.Core.Bool.{not}
 use mathlib.Core.List.{List}
@@ -14,15 +14,14 @@ use lib.Seq.{length-sets}
 use Rattle.rules.specs.Card.{baseLength}
 use Rattle.rules.specs.Table.{mostActions}
 use Rattle.rules.specs.Ledger.{Ledger, ledgerOf}
-use Rattle.rules.specs.Encoding.{mostEvents, eventsIn}
-use Rattle.rules.specs.Tree.{linesOf, reportLength, withReport, Report, reportOf, report, treeCause}
+use Rattle.rules.specs.Encoding.{eventsIn}
+use Rattle.rules.specs.Tree.{treeLines, reportLength, withReport, Report, reportOf, report}
 use Rattle.rules.proofs.Laws.Allowed.{not-given}
 use Rattle.rules.proofs.Tree.Lines.{line-for-each, line-placed}
 use Rattle.rules.proofs.Tree.Theorem.{reported-of-few}
 use Rattle.report.proofs.Causes.{reportable, totals-are}
 use Rattle.dayread.specs.File.{eventBytes}
 use Rattle.dayread.specs.Opening.{openingBase}
-use Rattle.dayread.proofs.Faultless.{faultless}
 use Rattle.listing.specs.Listing.{refusedLine}
 use Rattle.listing.specs.Buffer.{listingLength, putAt}
 use Rattle.listing.specs.Tree.{treeText}
@@ -39,20 +38,20 @@ use Rattle.dayfile.proofs.Days.{accepts, events-few}
 
 module _ (w base shadow opening : List ℕ) (has : HasReport w base shadow opening) where
   -- no more lines than actions
-  pub lines-few : length (linesOf w) ≤ mostActions
+  pub lines-few : length (treeLines w) ≤ mostActions
   lines-few =
       let sound = reportable w base shadow opening has .accepted .1 in
       omega (arith, line-for-each sound, sound .few)
 
   -- what the report gives back
   reported :
-      (buffer : List ℕ) → report w base shadow opening buffer ≡ reportOf 0 (length (linesOf w)) (withReport buffer w base opening)
+      (buffer : List ℕ) → report w base shadow opening buffer ≡ reportOf 0 (length (treeLines w)) (withReport buffer w base opening)
   unfolding report
   reported buffer = rw has
 
   module _ (buffer : List ℕ) (whole : length buffer ≡ reportLength) {cause lines : ℕ} {words : List ℕ}
       (given : reportOf cause lines words ≡ report w base shadow opening buffer) where
-    pub lines-given : lines ≡ length (linesOf w)
+    pub lines-given : lines ≡ length (treeLines w)
     lines-given = ap (λ (r : Report). r .lines) (given ∙ reported buffer)
 
     pub words-given : words ≡ withReport buffer w base opening
@@ -79,7 +78,7 @@ module _ (w base shadow opening : List ℕ) (has : HasReport w base shadow openi
       let words = withReport zeros w base opening in
       let whole = length-replicate {A = ℕ} reportLength 0 in
       rw (← text-given zeros whole (sym (reported zeros)), length-append)
-      (tree-fits words (length (linesOf w)) lines-few)
+      (tree-fits words (length (treeLines w)) lines-few)
 
 -- ---- a day
 

@@ -5,7 +5,7 @@ use native.Mathlib.Nat.{zero-add, add-zero, suc-add, mul-zero, mul-suc, one-mul}
 use native.Mathlib.Omega.{arith}
 use native.Mathlib.Numerals.{add-one}
 use mathlib.Core.Path.{_≡_, refl, ap, _∙_}
-use mathlib.Core.List.{List, [], _∷_, _++_, append-nil, append-assoc}
+use mathlib.Core.List.{List, _∷_, _++_, append-nil, append-assoc}
 use lib.Dec.{eqb, lit≤}
 use lib.ListN.{length, getD, length-append}
 use Rattle.rules.specs.Amount.{amountOf}

@@ -14,7 +14,7 @@ use Rattle.rules.specs.Range.{upFrom}
 use Rattle.rules.specs.Card.{firstCharge, chargeCount, chargeAccounts, IsCharge}
 use Rattle.rules.specs.Amount.{amountWord, isAmount, baseAmount}
 use Rattle.rules.specs.Table.{mostActions, stateOf}
-use Rattle.rules.specs.Tree.{Line, totalOf, topSum, linesOf, accountFigures, figuresOf, balanceOf, lineLength, lineWords, balanceLength, balanceWords, blockPlace, reportLength, withReport}
+use Rattle.rules.specs.Tree.{Line, totalOf, topSum, treeLines, accountFigures, figuresOf, balanceOf, lineLength, lineWords, balanceLength, balanceWords, blockPlace, reportLength, withReport}
 use Rattle.rules.proofs.Laws.Ranges.{Within}
 use Rattle.rules.proofs.Laws.Amounts.{amount-of-any, amountIn-any, amount-read-back}
 use Rattle.listing.specs.Tree.{spacedFigures, actionLine, balanceLine, treeText}
@@ -181,10 +181,10 @@ module _ (w base opening : List ℕ) where
 -- ---- the report
 
 -- a report is put into a buffer of its length, with no more lines than there is room for
-module _ (buffer w base opening : List ℕ) (whole : length buffer ≡ reportLength) (few : length (linesOf w) ≤ mostActions) where
+module _ (buffer w base opening : List ℕ) (whole : length buffer ≡ reportLength) (few : length (treeLines w) ≤ mostActions) where
   -- the words of all lines, and those of the last block
   abbrev lineRun : List ℕ
-  lineRun = flatMap (lineWords w) (linesOf w)
+  lineRun = flatMap (lineWords w) (treeLines w)
 
   abbrev block : List ℕ
   block = flatMap (balanceWords w base opening) chargeAccounts
@@ -204,7 +204,7 @@ module _ (buffer w base opening : List ℕ) (whole : length buffer ≡ reportLen
   gap = blockPlace - length lineRun
 
   lineRun-fits : length lineRun ≤ blockPlace
-  lineRun-fits = omega (arith, words-length lineLength (lineWords w) (lineWords-length w) (linesOf w))
+  lineRun-fits = omega (arith, words-length lineLength (lineWords w) (lineWords-length w) (treeLines w))
 
   block-length : length block ≡ reportLength - blockPlace
   unfolding flatMap chargeAccounts upFrom balanceWords
@@ -231,14 +231,14 @@ module _ (buffer w base opening : List ℕ) (whole : length buffer ≡ reportLen
 
   -- where every figure is an amount, the report's text is the tree's
   pub text-of-report :
-      ((line : Line) → List·Memᴰ line (linesOf w) → TotalsFit w (line .number))
+      ((line : Line) → List·Memᴰ line (treeLines w) → TotalsFit w (line .number))
       → ((k : ℕ) → IsCharge k → isAmount (topSum w k) ≡ true)
-      → textOfReport (withReport buffer w base opening) (length (linesOf w)) ≡ treeText w base opening
+      → textOfReport (withReport buffer w base opening) (length (treeLines w)) ≡ treeText w base opening
   unfolding textOfReport treeText chargeAccounts upFrom
   text-of-report totals sums =
       let words = withReport buffer w base opening in
       ap₂ _++_
-      (lines-text lineLength (lineWords w) (lineWords-length w) words (lineAtPlace words) (actionLine w) (linesOf w) 0
+      (lines-text lineLength (lineWords w) (lineWords-length w) words (lineAtPlace words) (actionLine w) (treeLines w) 0
       (λ line m. line-text w words line (totals line m))
       lines-begin)
       (lines-text balanceLength (balanceWords w base opening) (balanceWords-length w base opening) words (balanceAtPlace words)

@@ -8,7 +8,7 @@ use Rattle.rules.specs.declared.Answer.the-variants.{Committed, Aborted}
 use Rattle.rules.specs.Card.{chargeAccounts}
 use Rattle.rules.specs.Table.{live, committed, stateOf}
 use Rattle.rules.specs.Answer.{said}
-use Rattle.rules.specs.Tree.{Line, linesOf, figuresOf, balanceOf}
+use Rattle.rules.specs.Tree.{Line, treeLines, figuresOf, balanceOf}
 use Rattle.listing.specs.Listing.{space, lineFeed, decimal, spaced, signed}
 
 -- the letters of `live`
@@ -36,4 +36,4 @@ balanceLine w base opening k = decimal k ++ spacedFigures (balanceOf w base open
 
 -- all lines
 unfoldable pub treeText : List ℕ → List ℕ → List ℕ → List ℕ
-treeText w base opening = flatMap (actionLine w) (linesOf w) ++ flatMap (balanceLine w base opening) chargeAccounts
+treeText w base opening = flatMap (actionLine w) (treeLines w) ++ flatMap (balanceLine w base opening) chargeAccounts

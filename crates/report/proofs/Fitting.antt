@@ -21,7 +21,7 @@ use Rattle.amounts.specs.Word.{wordAt}
 use Rattle.amounts.proofs.Places.{base-amount-at}
 use Rattle.totals.specs.Total.{fitsWithin, totalFigure, topFigure}
 use Rattle.totals.proofs.Children.{all-children}
-use Rattle.totals.proofs.Gathering.{shown-fits, fitting-is-amount}
+use Rattle.totals.proofs.Gathering.{figureIf-fits, fitting-is-amount}
 use Rattle.report.specs.Asked.{FiguresFit}
 
 module _ {w : List ℕ} (s : Sound w) (k : ℕ) where
@@ -81,7 +81,7 @@ module _ {w : List ℕ} (s : Sound w) (k : ℕ) where
       let are = tested-totals .0 fits in
       let tops = all-children w 0 (fitsWithin mostActions w k) (λ m known _. totals-fit are m known) in
       let none = not-any isOutside 1 (started w) (λ n h. not-fails _ .1 (are n (omega arith))) in
-      rw (tops, none) (shown-fits (isAmount (topSum w k)) (topSum w k) ∙ sym (not-not (isAmount (topSum w k))))
+      rw (tops, none) (figureIf-fits (isAmount (topSum w k)) (topSum w k) ∙ sym (not-not (isAmount (topSum w k))))
     where
       not-not : (b : Bool) → not (not b) ≡ b
       not-not true = refl

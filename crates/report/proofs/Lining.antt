@@ -11,31 +11,31 @@ use Rattle.rules.specs.Card.{chargeAccounts}
 use Rattle.rules.specs.Table.{started, actions, isChildOf}
 use Rattle.rules.specs.Tree.{Line, children, linesWithin, figuresOf, lineLength, lineWords}
 use Rattle.rules.proofs.Laws.Ranges.{left-next, left-done}
-use Rattle.report.specs.Lined.{lineOf, actionLines, childrenFrom, linesFrom, HasLineRoom, IsLined}
+use Rattle.report.specs.Lined.{lineAtDepth, actionLines, childrenFrom, linesFrom, HasLineRoom, IsLined}
 use Rattle.report.proofs.Words.{sets-append}
 
 -- ---- lines put one after the other
 
 module _ (w : List ℕ) where
   -- the words of lines
-  abbrev pub wordsOf : List Line → List ℕ
-  wordsOf = flatMap (lineWords w)
+  abbrev pub linesWords : List Line → List ℕ
+  linesWords = flatMap (lineWords w)
 
   one-line : (line : Line) → length (lineWords w line) ≡ lineLength
   unfolding lineWords figuresOf chargeAccounts upFrom flatMap
   one-line line = refl
 
-  words-length : (lines : List Line) → length (wordsOf lines) ≡ lineLength * length lines
+  words-length : (lines : List Line) → length (linesWords lines) ≡ lineLength * length lines
   unfolding flatMap
   words-length [] = refl
   words-length (line ∷ lines) =
-      omega (arith, length-append (lineWords w line) (wordsOf lines), one-line line, words-length lines)
+      omega (arith, length-append (lineWords w line) (linesWords lines), one-line line, words-length lines)
 
-  words-append : (xs ys : List Line) → wordsOf (xs ++ ys) ≡ wordsOf xs ++ wordsOf ys
+  words-append : (xs ys : List Line) → linesWords (xs ++ ys) ≡ linesWords xs ++ linesWords ys
   unfolding flatMap
   words-append [] ys = refl
   words-append (x ∷ xs) ys =
-      ap (λ rest. lineWords w x ++ rest) (words-append xs ys) ∙ sym (append-assoc (lineWords w x) (wordsOf xs) (wordsOf ys))
+      ap (λ rest. lineWords w x ++ rest) (words-append xs ys) ∙ sym (append-assoc (lineWords w x) (linesWords xs) (linesWords ys))
 
   pub lined-none : (before : List ℕ) (at : ℕ) → IsLined w before at [] before at
   unfolding flatMap
@@ -52,17 +52,17 @@ module _ (w : List ℕ) where
       {before : List ℕ} {at : ℕ} {xs : List Line} {between : List ℕ} {middle : ℕ} {ys : List Line} {after : List ℕ} {next : ℕ} →
       IsLined w before at xs between middle → IsLined w between middle ys after next → IsLined w before at (xs ++ ys) after next
   lined-both {before} {at} {xs} {between} {middle} {ys} first then =
-      let place : at + length (wordsOf xs) ≡ middle = omega (arith, first .behind, words-length xs) in
+      let place : at + length (linesWords xs) ≡ middle = omega (arith, first .behind, words-length xs) in
       record {
         behind = omega (arith, first .behind, then .behind, length-append xs ys);
         leaves =
             then .leaves
-            ∙ ap₂ (λ l next. sets l next (wordsOf ys)) (first .leaves) (sym place)
-            ∙ sym (ap (sets before at) (words-append xs ys) ∙ sets-append before at (wordsOf xs) (wordsOf ys));
+            ∙ ap₂ (λ l next. sets l next (linesWords ys)) (first .leaves) (sym place)
+            ∙ sym (ap (sets before at) (words-append xs ys) ∙ sets-append before at (linesWords xs) (linesWords ys));
       }
 
   pub lined-length : {before : List ℕ} {at : ℕ} {lines : List Line} {after : List ℕ} {next : ℕ} → IsLined w before at lines after next → length after ≡ length before
-  lined-length {before} {at} {lines} lined = ap length (lined .leaves) ∙ length-sets before at (wordsOf lines)
+  lined-length {before} {at} {lines} lined = ap length (lined .leaves) ∙ length-sets before at (linesWords lines)
 
 -- ---- room for them
 
@@ -105,16 +105,16 @@ module _ (w : List ℕ) (depth n : ℕ) where
   unfolding actionLines
   line-first levels room = omega (arith, room .whole, room .room)
 
-  pub lines-of-last : actionLines 0 w depth n ≡ lineOf depth n ∷ []
+  pub lines-of-last : actionLines 0 w depth n ≡ lineAtDepth depth n ∷ []
   unfolding actionLines linesWithin
   lines-of-last = refl
 
   pub lines-of-action :
       (levels : ℕ) → 1 ≤ levels →
-      actionLines levels w depth n ≡ (lineOf depth n ∷ []) ++ linesFrom (levels - 1) w (depth + 1) n 1
+      actionLines levels w depth n ≡ (lineAtDepth depth n ∷ []) ++ linesFrom (levels - 1) w (depth + 1) n 1
   unfolding actionLines
   lines-of-action levels some =
       let one-more : suc (levels - 1) ≡ levels = omega arith in
       let deeper : suc depth ≡ depth + 1 = omega arith in
-      ap (λ lines. lineOf depth n ∷ lines)
+      ap (λ lines. lineAtDepth depth n ∷ lines)
       (ap₂ (λ many deep. linesWithin many w deep n) (sym one-more) deeper ∙ lines-under (levels - 1) w (depth + 1) n)

@@ -8,12 +8,12 @@ use Rattle.rules.specs.Range.{upFrom, filter}
 use Rattle.rules.specs.Table.{mostActions, started, isChildOf}
 use Rattle.rules.specs.Tree.{Line, linesWithin, lineLength, lineWords, blockPlace, reportLength}
 
-abbrev pub lineOf : ℕ → ℕ → Line
-lineOf depth n = record { depth = depth; number = n }
+abbrev pub lineAtDepth : ℕ → ℕ → Line
+lineAtDepth depth n = record { depth = depth; number = n }
 
 -- n's line, and those under it from so many levels
 unfoldable pub actionLines : ℕ → List ℕ → ℕ → ℕ → List Line
-actionLines levels w depth n = lineOf depth n ∷ linesWithin levels w (suc depth) n
+actionLines levels w depth n = lineAtDepth depth n ∷ linesWithin levels w (suc depth) n
 
 -- p's children from i on, and the lines of all of them; from 1 on they are those under p (proofs/Lining.antt)
 unfoldable pub childrenFrom : List ℕ → ℕ → ℕ → List ℕ

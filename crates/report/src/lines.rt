@@ -7,7 +7,7 @@ ghost use Rattle.rules.specs.Tree.{lineLength, lineWords};
 ghost use Rattle.rows.specs.Row.{HasRow};
 ghost use Rattle.totals.specs.Total.{IsNext};
 ghost use Rattle.report.specs.Asked.{FiguresFit, HasRoomFor};
-ghost use Rattle.report.specs.Lined.{HasLevels, HasLineRoom, lineOf, actionLines, linesFrom, IsLined};
+ghost use Rattle.report.specs.Lined.{HasLevels, HasLineRoom, lineAtDepth, actionLines, linesFrom, IsLined};
 use crate::figures::put_figures;
 use rows::fields::last_start;
 use rows::fields::parent;
@@ -29,7 +29,7 @@ fn put_line(table: &[u64], report: &mut [u64], at: usize, n: u64, depth: u64)
     requires { ⌜ IsStarted (now table) n ⌝ }
     requires { ⌜ HasRoomFor lineLength (now report) at ⌝ }
     ensures { λ r. ⌜ now (report .exit)
-        ≡ sets (now (report .entry)) at (lineWords (now (table .entry)) (lineOf depth n)) ⌝ }
+        ≡ sets (now (report .entry)) at (lineWords (now (table .entry)) (lineAtDepth depth n)) ⌝ }
 {
     report[at] = depth;
     report[at + NUMBER_AT] = n;

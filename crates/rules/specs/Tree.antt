@@ -57,8 +57,8 @@ linesWithin (suc levels) w depth p =
     flatMap (λ m. record { depth = depth; number = m } ∷ linesWithin levels w (suc depth) m) (children w p)
 
 -- the report's: one for each action of a sound table (proofs/Tree/Lines.antt)
-unfoldable pub linesOf : List ℕ → List Line
-linesOf w = linesWithin mostActions w 0 0
+unfoldable pub treeLines : List ℕ → List Line
+treeLines w = linesWithin mostActions w 0 0
 
 -- what a line says of charge account k, and of all of them
 abbrev pub accountFigures : List ℕ → ℕ → ℕ → List ℤ
@@ -113,7 +113,7 @@ reportLength = 1248
 -- a buffer with the lines put at its front and the last block at its place: no other word of it changes
 unfoldable pub withReport : List ℕ → List ℕ → List ℕ → List ℕ → List ℕ
 withReport buffer w base opening =
-    sets (sets buffer 0 (flatMap (lineWords w) (linesOf w))) blockPlace (flatMap (balanceWords w base opening) chargeAccounts)
+    sets (sets buffer 0 (flatMap (lineWords w) (treeLines w))) blockPlace (flatMap (balanceWords w base opening) chargeAccounts)
 
 -- what the call gives back: the cause, how many lines there are, and the buffer
 pub record Report : Type 0 where
@@ -127,4 +127,4 @@ reportOf cause lines words = record { cause = cause; lines = lines; words = word
 unfoldable pub report : List ℕ → List ℕ → List ℕ → List ℕ → List ℕ → Report
 report w base shadow opening buffer =
     let cause = treeCause w base shadow opening in
-    cond (eqb cause 0) (reportOf cause (length (linesOf w)) (withReport buffer w base opening)) (reportOf cause 0 buffer)
+    cond (eqb cause 0) (reportOf cause (length (treeLines w)) (withReport buffer w base opening)) (reportOf cause 0 buffer)

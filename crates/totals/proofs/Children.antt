@@ -11,7 +11,7 @@ use Rattle.rules.specs.Sound.{IsStarted}
 use Rattle.rules.specs.Tree.{children, committedChildren}
 use Rattle.rules.proofs.Laws.Tests.{and-left, implies}
 use Rattle.rules.proofs.Laws.Ranges.{all-of, left-next, left-done}
-use Rattle.totals.specs.Total.{isCommittedChildOf, childrenFrom}
+use Rattle.totals.specs.Total.{isCommittedChildOf, committedFrom}
 
 -- what is left by one test of what the other leaves is left by both
 filter-twice : (f g : ℕ → Bool) (l : List ℕ) → filter (λ x. f x && g x) l ≡ filter g (filter f l)
@@ -45,21 +45,21 @@ module _ (w : List ℕ) (p : ℕ) where
       ∙ all-of _ 1 (started w)
       (λ m h. implies (is m) (f m) (λ child. holds m (omega arith) (eqb-true _ p (and-left (isChildOf w p m) _ child))))
 
-  pub children-from-first : childrenFrom w p 1 ≡ committedChildren w p
-  unfolding childrenFrom committedChildren children actions
+  pub children-from-first : committedFrom w p 1 ≡ committedChildren w p
+  unfolding committedFrom committedChildren children actions
   children-from-first =
       let all : started w + 1 - 1 ≡ started w = omega arith in
       ap (λ many. filter (isCommittedChildOf w p) (upFrom 1 many)) all ∙ filter-twice (isChildOf w p) (isCommitted w) (upFrom 1 (started w))
 
   module _ (i : ℕ) where
-    pub children-done : started w < i → childrenFrom w p i ≡ []
-    unfolding childrenFrom filter
+    pub children-done : started w < i → committedFrom w p i ≡ []
+    unfolding committedFrom filter
     children-done over = rw (left-done i (started w + 1) (omega arith))
 
-    pub children-here : i ≤ started w → isCommittedChildOf w p i ≡ true → childrenFrom w p i ≡ i ∷ childrenFrom w p (i + 1)
-    unfolding childrenFrom filter
+    pub children-here : i ≤ started w → isCommittedChildOf w p i ≡ true → committedFrom w p i ≡ i ∷ committedFrom w p (i + 1)
+    unfolding committedFrom filter
     children-here within is = rw (left-next i (started w + 1) (omega arith), is)
 
-    pub children-next : i ≤ started w → isCommittedChildOf w p i ≡ false → childrenFrom w p i ≡ childrenFrom w p (i + 1)
-    unfolding childrenFrom filter
+    pub children-next : i ≤ started w → isCommittedChildOf w p i ≡ false → committedFrom w p i ≡ committedFrom w p (i + 1)
+    unfolding committedFrom filter
     children-next within isnt = rw (left-next i (started w + 1) (omega arith), isnt)

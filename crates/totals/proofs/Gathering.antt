@@ -16,15 +16,15 @@ use Rattle.amounts.specs.Sum.{wordValues, valueOf, sumOf, plusWord, HasRoom}
 use Rattle.amounts.proofs.Sums.{value-of-word, value-plus}
 use Rattle.totals.specs.declared.figure.Figure.{Figure}
 use Rattle.totals.specs.declared.total.Gathered.{Gathered}
-use Rattle.totals.specs.Figure.{shown, figureOf}
-use Rattle.totals.specs.Total.{isCommittedChildOf, IsNext, childrenFrom, fitsWithin, totalFigure, topFigure, IsGathered, joinedWith}
+use Rattle.totals.specs.Figure.{figureIf, figureOf}
+use Rattle.totals.specs.Total.{isCommittedChildOf, IsNext, committedFrom, fitsWithin, totalFigure, topFigure, IsGathered, joinedWith}
 use Rattle.totals.proofs.Children.{children-from-first, children-done, children-here, children-next}
 
 -- ---- a figure that fits
 
-pub shown-fits : (b : Bool) (z : ℤ) → shown b z .fits ≡ b
-shown-fits true z = refl
-shown-fits false z = refl
+pub figureIf-fits : (b : Bool) (z : ℤ) → figureIf b z .fits ≡ b
+figureIf-fits true z = refl
+figureIf-fits false z = refl
 
 -- a total of no levels
 pub no-levels : (w : List ℕ) (k n : ℕ) → totalFigure 0 w k n ≡ record { fits = true; word = 0 }
@@ -73,13 +73,13 @@ module _ (levels : ℕ) (w : List ℕ) (few : started w ≤ mostActions) (k n i 
     -- a committed child's total joins the others
     module _ (is : isCommittedChildOf w n i ≡ true) (child : Figure) (has : child ≡ totalFigure levels w k i) (short : child .word < wordValues) where
       child-fits : child .fits ≡ fitsWithin levels w k i
-      child-fits = ap (λ f. f .fits) has ∙ shown-fits (fitsWithin levels w k i) (totalWithin levels w k i)
+      child-fits = ap (λ f. f .fits) has ∙ figureIf-fits (fitsWithin levels w k i) (totalWithin levels w k i)
 
-      both-fit : joinedWith rest child .fits ≡ all (fitsWithin levels w k) (childrenFrom w n i)
+      both-fit : joinedWith rest child .fits ≡ all (fitsWithin levels w k) (committedFrom w n i)
       unfolding all
       both-fit = rw (children-here w n i within is) (ap₂ _&&_ child-fits (gathered .fit))
 
-      joined-value : joinedWith rest child .fits ≡ true → valueOf (plusWord (rest .sum) (child .word)) ≡ addedUp (totalWithin levels w k) (childrenFrom w n i)
+      joined-value : joinedWith rest child .fits ≡ true → valueOf (plusWord (rest .sum) (child .word)) ≡ addedUp (totalWithin levels w k) (committedFrom w n i)
       unfolding addedUp
       joined-value fit =
           let child-fit = sym child-fits ∙ and-left (child .fits) (rest .fits) fit in
@@ -87,7 +87,7 @@ module _ (levels : ℕ) (w : List ℕ) (few : started w ≤ mostActions) (k n i 
           rw (children-here w n i within is)
           (value-plus (rest .sum) (child .word) short
           ∙ ap₂ _+ℤ_ others (ap (λ f. amountOf (f .word)) has ∙ fitting-word levels w k i child-fit)
-          ∙ +ℤ-comm (addedUp (totalWithin levels w k) (childrenFrom w n (i + 1))) (totalWithin levels w k i))
+          ∙ +ℤ-comm (addedUp (totalWithin levels w k) (committedFrom w n (i + 1))) (totalWithin levels w k i))
 
       pub gathered-here : rest .sum .low < wordValues → IsGathered levels w k n i (joinedWith rest child)
       unfolding plusWord

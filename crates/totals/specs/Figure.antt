@@ -5,9 +5,9 @@ use Rattle.rules.specs.Amount.{amountWord, isAmount}
 use Rattle.totals.specs.declared.figure.Figure.{Figure}
 
 -- the figure z, by whether it and those that it was made of are amounts
-abbrev pub shown : Bool → ℤ → Figure
-shown fits z = cond fits (record { fits = true; word = amountWord z }) (record { fits = false; word = 0 })
+abbrev pub figureIf : Bool → ℤ → Figure
+figureIf fits z = cond fits (record { fits = true; word = amountWord z }) (record { fits = false; word = 0 })
 
 -- the same, by whether those are that it was made of
 abbrev pub figureOf : Bool → ℤ → Figure
-figureOf fit z = shown (fit && isAmount z) z
+figureOf fit z = figureIf (fit && isAmount z) z

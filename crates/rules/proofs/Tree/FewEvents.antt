@@ -16,7 +16,7 @@ use Rattle.rules.specs.Serial.Demand.{newOver}
 use Rattle.rules.specs.Balanced.{ledgerAfter}
 use Rattle.rules.proofs.Laws.Amounts.{amount-holds}
 use Rattle.rules.proofs.Sound.Kept.{new-sound, run-keeps-sound}
-use Rattle.rules.proofs.Tree.Numbers.{sumOf-at-most}
+use Rattle.rules.proofs.Tree.Numbers.{tally-at-most}
 use Rattle.rules.proofs.Tree.Magnitudes.{ownMagnitude, topSum-magnitude}
 use Rattle.rules.proofs.Tree.OwnAdds.{OwnAtMost, new-at-most, run-at-most}
 
@@ -27,7 +27,7 @@ most = mostAdded * mostEvents
 small-sum : {w : List ℕ} → Sound w → (k : ℕ) → OwnAtMost k most w → isAmount (topSum w k) ≡ true
 unfolding actions
 small-sum {w} s k each =
-    let together = sumOf-at-most (ownMagnitude w k) most 1 (started w) (λ m h. each m (omega arith)) in
+    let together = tally-at-most (ownMagnitude w k) most 1 (started w) (λ m h. each m (omega arith)) in
     amount-holds (topSum w k) .1 (omega (arith, topSum-magnitude w s k, together, s .few))
 
 pub few-events-fit :

@@ -10,12 +10,12 @@ use Rattle.rules.specs.Range.{upFrom}
 use Rattle.rules.specs.Table.{mostActions, started, parentOf, actions, isChildOf}
 use Rattle.rules.specs.Sound.{IsStarted, Sound}
 use Rattle.rules.proofs.Laws.Walking.{parent-known}
-use Rattle.rules.proofs.Tree.Numbers.{sumOf, sumOf-agree, sumOf-plus, sumOf-swap, sumOf-there}
+use Rattle.rules.proofs.Tree.Numbers.{tally, tally-agree, tally-plus, tally-swap, tally-there}
 use Rattle.rules.proofs.Tree.Levels.{levels-follow}
 
 -- what f gives for p's children, added up
 unfoldable pub ofChildren : List ℕ → (ℕ → ℕ) → ℕ → ℕ
-ofChildren w f p = sumOf (λ m. cond (isChildOf w p m) (f m) 0) (actions w)
+ofChildren w f p = tally (λ m. cond (isChildOf w p m) (f m) 0) (actions w)
 
 -- what n and all below it hold, from so many levels, where each action has its own
 unfoldable pub held : (ℕ → ℕ) → List ℕ → ℕ → ℕ → ℕ
@@ -27,19 +27,19 @@ module _ {w : List ℕ} (s : Sound w) where
   children-later :
       (f g : ℕ → ℕ) (p : ℕ) → ((m : ℕ) → IsStarted w m → p < m → f m ≡ g m) → ofChildren w f p ≡ ofChildren w g p
   unfolding ofChildren actions
-  children-later f g p same = sumOf-agree _ _ 1 (started w) (λ m h. at m (omega arith) (isChildOf w p m) refl)
+  children-later f g p same = tally-agree _ _ 1 (started w) (λ m h. at m (omega arith) (isChildOf w p m) refl)
     where
       at : (m : ℕ) → IsStarted w m → (b : Bool) → isChildOf w p m ≡ b → cond b (f m) 0 ≡ cond b (g m) 0
       at m h true child = same m h (omega (arith, s .below m h, eqb-true (parentOf w m) p child))
       at m h false other = refl
 
   -- each action is the child of one action, or of the store
-  children-of-all : (f : ℕ → ℕ) → ofChildren w f 0 + sumOf (ofChildren w f) (actions w) ≡ sumOf f (actions w)
-  unfolding ofChildren actions sumOf upFrom
+  children-of-all : (f : ℕ → ℕ) → ofChildren w f 0 + tally (ofChildren w f) (actions w) ≡ tally f (actions w)
+  unfolding ofChildren actions tally upFrom
   children-of-all f =
-      sumOf-swap (λ p m. cond (isChildOf w p m) (f m) 0) (upFrom 0 (suc (started w))) (upFrom 1 (started w))
-      ∙ sumOf-agree _ _ 1 (started w)
-      (λ m h. sumOf-there (parentOf w m) (f m) 0 (suc (started w)) (omega (arith, parent-known s m (omega arith))))
+      tally-swap (λ p m. cond (isChildOf w p m) (f m) 0) (upFrom 0 (suc (started w))) (upFrom 1 (started w))
+      ∙ tally-agree _ _ 1 (started w)
+      (λ m h. tally-there (parentOf w m) (f m) 0 (suc (started w)) (omega (arith, parent-known s m (omega arith))))
 
   module _ (own : ℕ → ℕ) where
     abbrev all-held : ℕ → ℕ
@@ -51,10 +51,10 @@ module _ {w : List ℕ} (s : Sound w) where
         levels-follow s (λ f m. own m + ofChildren w f m) (λ f g m same. ap (λ z. own m + z) (children-later f g m same))
         (held own w) (λ levels m. refl) mostActions n known (omega arith)
 
-    all-hold : sumOf all-held (actions w) ≡ sumOf own (actions w) + sumOf (ofChildren w all-held) (actions w)
+    all-hold : tally all-held (actions w) ≡ tally own (actions w) + tally (ofChildren w all-held) (actions w)
     unfolding actions
     all-hold =
-        sumOf-agree _ _ 1 (started w) (λ n h. held-follows n (omega arith)) ∙ sumOf-plus own (ofChildren w all-held) (actions w)
+        tally-agree _ _ 1 (started w) (λ n h. held-follows n (omega arith)) ∙ tally-plus own (ofChildren w all-held) (actions w)
 
-    pub held-by-all : ofChildren w (held own w mostActions) 0 ≡ sumOf own (actions w)
+    pub held-by-all : ofChildren w (held own w mostActions) 0 ≡ tally own (actions w)
     held-by-all = omega (arith, all-hold, children-of-all all-held)

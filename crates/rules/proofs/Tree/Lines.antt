@@ -11,18 +11,18 @@ use lib.ListN.{length, length-append}
 use Rattle.rules.specs.Range.{upFrom, filter}
 use Rattle.rules.specs.Table.{mostActions, started, parentOf, actions, isChildOf}
 use Rattle.rules.specs.Sound.{IsStarted, Sound}
-use Rattle.rules.specs.Tree.{Line, children, linesWithin, linesOf}
+use Rattle.rules.specs.Tree.{Line, children, linesWithin, treeLines}
 use Rattle.rules.proofs.Laws.Tests.{cond-same}
 use Rattle.rules.proofs.Laws.Ranges.{filter-only}
 use Rattle.rules.proofs.Laws.Walking.{sound-climbs, movesToStore, movesToStore-store, movesToStore-step}
-use Rattle.rules.proofs.Tree.Numbers.{sumOf, sumOf-agree, sumOf-nothing}
+use Rattle.rules.proofs.Tree.Numbers.{tally, tally-agree, tally-nothing}
 use Rattle.rules.proofs.Tree.Held.{ofChildren, held, held-by-all}
 
 -- lines put together, for those of which c holds
 lines-together :
     (f : ℕ → List Line) (c : ℕ → Bool) (l : List ℕ) →
-    length (flatMap f (filter c l)) ≡ sumOf (λ m. cond (c m) (length (f m)) 0) l
-unfolding flatMap filter sumOf
+    length (flatMap f (filter c l)) ≡ tally (λ m. cond (c m) (length (f m)) 0) l
+unfolding flatMap filter tally
 lines-together f c [] = refl
 lines-together f c (x ∷ xs) = kept (c x) (lines-together f c xs)
   where
@@ -35,20 +35,20 @@ lines-together f c (x ∷ xs) = kept (c x) (lines-together f c xs)
 -- how deep they lie makes no difference
 lines-within : (w : List ℕ) (levels depth p : ℕ) → length (linesWithin levels w depth p) ≡ ofChildren w (held (λ m. 1) w levels) p
 unfolding linesWithin children ofChildren held actions
-lines-within w zero depth p = sym (sumOf-nothing _ (λ m. cond-same (isChildOf w p m) 0) (actions w))
+lines-within w zero depth p = sym (tally-nothing _ (λ m. cond-same (isChildOf w p m) 0) (actions w))
 lines-within w (suc levels) depth p =
     lines-together _ (isChildOf w p) (actions w)
-    ∙ sumOf-agree _ _ 1 (started w)
+    ∙ tally-agree _ _ 1 (started w)
     (λ m h. ap (λ z. cond (isChildOf w p m) z 0) (omega (arith, lines-within w levels (suc depth) m)))
 
 -- one for each number of a run
-ones : (a n : ℕ) → sumOf (λ m. 1) (upFrom a n) ≡ n
-unfolding sumOf upFrom
+ones : (a n : ℕ) → tally (λ m. 1) (upFrom a n) ≡ n
+unfolding tally upFrom
 ones a zero = refl
 ones a (suc n) = omega (arith, ones (suc a) n)
 
-pub line-for-each : {w : List ℕ} → Sound w → length (linesOf w) ≡ started w
-unfolding linesOf actions
+pub line-for-each : {w : List ℕ} → Sound w → length (treeLines w) ≡ started w
+unfolding treeLines actions
 line-for-each {w} s = lines-within w mostActions _ 0 ∙ held-by-all s (λ m. 1) ∙ ones 1 (started w)
 
 -- ---- whose lines they are
@@ -92,6 +92,6 @@ module _ {w : List ℕ} (s : Sound w) where
       ⊎-elim (λ own. rw own placed) (placed-within levels (suc depth) n (placed .1) shown) (List·Memᴰ·cases-cons here))
       line m
 
-  pub line-placed : (line : Line) → List·Memᴰ line (linesOf w) → Placed line
-  unfolding linesOf
+  pub line-placed : (line : Line) → List·Memᴰ line (treeLines w) → Placed line
+  unfolding treeLines
   line-placed = placed-within mostActions 0 0 (movesToStore-store w)

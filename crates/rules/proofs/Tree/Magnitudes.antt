@@ -8,7 +8,7 @@ use Rattle.rules.specs.Table.{mostActions, ownAdds, isCommitted, actions
 use Rattle.rules.specs.Sound.{Sound}
 use Rattle.rules.specs.Tree.{committedChildren, addedUp, totalWithin, totalOf, topSum}
 use Rattle.rules.proofs.Laws.Integers.{up, dn, up-or-dn, sum-parts}
-use Rattle.rules.proofs.Tree.Numbers.{sumOf}
+use Rattle.rules.proofs.Tree.Numbers.{tally}
 use Rattle.rules.proofs.Tree.Brought.{brought, all-brought}
 use Rattle.rules.proofs.Tree.Held.{ofChildren, held, held-by-all}
 
@@ -20,8 +20,8 @@ pub sum-magnitude : (a b : ℤ) → magnitude (a +ℤ b) ≤ magnitude a + magni
 sum-magnitude a b = omega (arith, sum-parts a b, up-or-dn (a +ℤ b))
 
 all-magnitude :
-    (f : ℕ → ℤ) (h : ℕ → ℕ) → ((m : ℕ) → magnitude (f m) ≤ h m) → (l : List ℕ) → magnitude (addedUp f l) ≤ sumOf h l
-unfolding addedUp sumOf up dn
+    (f : ℕ → ℤ) (h : ℕ → ℕ) → ((m : ℕ) → magnitude (f m) ≤ h m) → (l : List ℕ) → magnitude (addedUp f l) ≤ tally h l
+unfolding addedUp tally up dn
 all-magnitude f h each [] = omega arith
 all-magnitude f h each (x ∷ xs) = omega (arith, sum-magnitude (f x) (addedUp f xs), each x, all-magnitude f h each xs)
 
@@ -54,7 +54,7 @@ module _ (w : List ℕ) where
         children-magnitude (totalWithin levels w k) (held (ownMagnitude k) w levels) (total-magnitude k levels) n,
       )
 
-  pub topSum-magnitude : Sound w → (k : ℕ) → magnitude (topSum w k) ≤ sumOf (ownMagnitude k) (actions w)
+  pub topSum-magnitude : Sound w → (k : ℕ) → magnitude (topSum w k) ≤ tally (ownMagnitude k) (actions w)
   unfolding topSum totalOf
   topSum-magnitude s k =
       omega (

@@ -2,8 +2,7 @@
 -- the account at the loop's head, and the test decides `k` itself. Assumes nothing.
 use Prim.Native.Nat.{_≤_, _-_}
 use native.Mathlib.Omega.{arith}
-use mathlib.Core.Path.{_≡_, refl, ap, _∙_}
-use mathlib.Core.Bool.{not}
+use mathlib.Core.Path.{_≡_, refl, _∙_}
 use borrow.Author.Needs.{needs}
 use Rattle.rules.specs.Range.{upFrom, any}
 use Rattle.rules.specs.Card.{accountCount, firstCharge, chargeAccounts}

@@ -10,7 +10,7 @@ use Rattle.rules.specs.Table.{mostActions, actions}
 use Rattle.rules.proofs.Laws.Ranges.{all-left-here, all-left-next, all-left-done}
 use Rattle.rules.proofs.Laws.Negated.{failed, held}
 use Rattle.totals.specs.Total.{fitsWithin}
-use Rattle.totals.proofs.Gathering.{shown-fits}
+use Rattle.totals.proofs.Gathering.{figureIf-fits}
 use Rattle.report.proofs.cause.totals_fit.Statement.{statement}
 use Rattle.report.proofs.cause.totals_fit.Tie as tie
 
@@ -37,7 +37,7 @@ total-requires c κs = search needs
 
 returns : tie.Need-returns Inv-loop μ-loop
 returns c =
-    let tested = ap (λ f. f .fits) (c .before .before .total .ensures) ∙ shown-fits _ _ in
+    let tested = ap (λ f. f .fits) (c .before .before .total .ensures) ∙ figureIf-fits _ _ in
     sym (c .before .before .before .before .loop .inv .2 ∙ all-left-here _ _ _ (c .before .before .before .loop-test .taken) (failed tested (c .if1 .taken)))
 
 add-n : tie.Need-add-n Inv-loop μ-loop
@@ -51,7 +51,7 @@ loop-again c =
     let left = c .before .before .before .before .loop .inv .2 in (
       omega arith,
       omega arith,
-      let tested = ap (λ f. f .fits) (c .before .before .total .ensures) ∙ shown-fits _ _ in
+      let tested = ap (λ f. f .fits) (c .before .before .total .ensures) ∙ figureIf-fits _ _ in
           left ∙ all-left-next _ _ _ (c .before .before .before .loop-test .taken) (held tested (c .if1 .left)),
     )
 

@@ -8,7 +8,7 @@ use borrow.Fn.Kinds.{In}
 use borrow.Fn.PlainCycle.{Measures, is, falls, and}
 use Rattle.rules.specs.Table.{mostActions}
 use Rattle.rules.proofs.Laws.Negated.{failed, held}
-use Rattle.report.specs.Lined.{lineOf, actionLines, linesFrom}
+use Rattle.report.specs.Lined.{lineAtDepth, actionLines, linesFrom}
 use Rattle.report.proofs.Lining.{lined-none, lined-one, lined-both, lined-length, room-first, room-then, lines-done, lines-here, lines-next, line-first, lines-of-last, lines-of-action}
 use Rattle.rows.proofs.fields.last_start.Reads as last-start
 use Rattle.report.proofs.lines.is_child.Reads as is-child
@@ -95,7 +95,7 @@ put-action-put-list-requires t c κs =
           omega arith,
           (
             omega (arith, start .pre .1 .1 .1 .0),
-            room-then (lineOf (args .depth) (args .n) ∷ []) under (rw lines at (start .pre .1 .1 .1 .1)) _ (lined-length _ first) _ (first .behind),
+            room-then (lineAtDepth (args .depth) (args .n) ∷ []) under (rw lines at (start .pre .1 .1 .1 .1)) _ (lined-length _ first) _ (first .behind),
           ),
         ),
       ),

@@ -8,7 +8,7 @@ use borrow.Author.Tests.{ne-eqb}
 use lib.ListN.{length}
 use Rattle.rules.specs.Table.{mostActions, started}
 use Rattle.rules.specs.Sound.{Sound}
-use Rattle.rules.specs.Tree.{linesOf, withReport, report}
+use Rattle.rules.specs.Tree.{treeLines, withReport, report}
 use Rattle.rules.proofs.Tree.Lines.{line-for-each}
 use Rattle.report.specs.Lined.{linesFrom}
 use Rattle.report.proofs.Causes.{reportable}
@@ -17,8 +17,8 @@ use Rattle.report.proofs.report.report.Statement.{statement}
 use Rattle.report.proofs.report.report.Tie as tie
 
 -- the lines of the store's children are all lines
-all-lines : (w : List ℕ) → linesOf w ≡ linesFrom (mostActions - 1) w 0 0 1
-unfolding linesOf
+all-lines : (w : List ℕ) → treeLines w ≡ linesFrom (mostActions - 1) w 0 0 1
+unfolding treeLines
 all-lines w = lines-under (mostActions - 1) w 0 0
 
 how-many : {w : List ℕ} → Sound w → length (linesFrom (mostActions - 1) w 0 0 1) ≡ started w
