@@ -30,21 +30,21 @@ pub fn print_listing(from: i32) -> usize
 pub fn print_tree(from: i32) -> usize
     ensures { λ r. ⌜ IsTree r ⌝ }
 {
-    let mut file = [0; FILE_LENGTH + 1];
+    let mut day = [0; FILE_LENGTH + 1];
     let mut table = [0; TABLE_LENGTH];
     let mut base = [0; BASE_LENGTH];
     let mut shadow = [0; SHADOW_LENGTH];
     let mut opening = [0; BASE_LENGTH];
     let mut text = [0; LISTING_LENGTH];
-    let n = io::read_full(from, &mut file);
-    let k = dayfile::tree::tree(
-        &file[..n],
+    let n = io::read_full(from, &mut day);
+    let size = dayfile::tree::tree(
+        &day[..n],
         &mut table,
         &mut base,
         &mut shadow,
         &mut opening,
         &mut text,
     );
-    io::write_all(STANDARD_OUTPUT, &text[..k]);
-    k
+    io::write_all(STANDARD_OUTPUT, &text[..size]);
+    size
 }

@@ -17,8 +17,8 @@ slice-aggregate-read-full c = search needs
 read-full-requires : tie.Need-read-full-requires
 read-full-requires c κs = search needs
 
-array-share-prefix-file : tie.Need-array-share-prefix-file
-array-share-prefix-file c = search needs
+array-share-prefix-day : tie.Need-array-share-prefix-day
+array-share-prefix-day c = search needs
 
 slice-aggregate-tree : tie.Need-slice-aggregate-tree
 slice-aggregate-tree c = search needs
@@ -64,7 +64,7 @@ print-tree-spec =
     (tie.spec
     slice-aggregate-read-full
     read-full-requires
-    array-share-prefix-file
+    array-share-prefix-day
     slice-aggregate-tree
     slice-aggregate-tree-2
     slice-aggregate-tree-3
