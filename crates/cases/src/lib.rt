@@ -1,1 +1,2 @@
-// The worked cases of RULES 13 and examples of a serial run and of R, proved of the definitions: specs/ has them, proofs/ the theorems.
+// The worked cases and trees of RULES 13 and examples of a serial run and of R, proved of the definitions: specs/ has them, proofs/ the
+// theorems.

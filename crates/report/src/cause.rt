@@ -58,7 +58,7 @@ fn all_fit(table: &[u64]) -> bool
     true
 }
 
-pub fn tree_cause(table: &[u64], base: &[u8], shadow: &[u8], opening: &[u8]) -> u64
+pub(crate) fn tree_cause(table: &[u64], base: &[u8], shadow: &[u8], opening: &[u8]) -> u64
     ensures { λ r. ⌜ r
         ≡ treeCause (now (table .entry)) (now (base .entry)) (now (shadow .entry)) (now (opening .entry)) ⌝ }
 {

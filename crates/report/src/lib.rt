@@ -1,6 +1,6 @@
 // The tree report of a table: why there is none, its lines, its last block.
-pub mod balance;
-pub mod cause;
-pub mod figures;
-pub mod lines;
+mod balance;
+mod cause;
+mod figures;
+mod lines;
 pub mod report;
