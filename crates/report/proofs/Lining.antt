@@ -10,7 +10,7 @@ use Rattle.rules.specs.Range.{upFrom, filter}
 use Rattle.rules.specs.Card.{chargeAccounts}
 use Rattle.rules.specs.Table.{started, actions, isChildOf}
 use Rattle.rules.specs.Tree.{Line, children, linesWithin, figuresOf, lineLength, lineWords}
-use Rattle.rules.proofs.Laws.Ranges.{left-next, left-done}
+use Rattle.rules.proofs.Laws.Ranges.{filter-left-here, filter-left-next, filter-left-done}
 use Rattle.report.specs.Lined.{lineAtDepth, actionLines, childrenFrom, linesFrom, HasLineRoom, IsLined}
 use Rattle.report.proofs.Words.{sets-append}
 
@@ -85,17 +85,17 @@ module _ (levels : ℕ) (w : List ℕ) (depth p : ℕ) where
 
   module _ (i : ℕ) where
     pub lines-done : started w < i → linesFrom levels w depth p i ≡ []
-    unfolding linesFrom childrenFrom filter flatMap
-    lines-done over = rw (left-done i (started w + 1) (omega arith))
+    unfolding linesFrom childrenFrom flatMap
+    lines-done over = rw (filter-left-done (isChildOf w p) i (started w + 1) (omega arith))
 
     pub lines-here :
         i ≤ started w → isChildOf w p i ≡ true → linesFrom levels w depth p i ≡ actionLines levels w depth i ++ linesFrom levels w depth p (i + 1)
-    unfolding linesFrom childrenFrom filter flatMap
-    lines-here within is = rw (left-next i (started w + 1) (omega arith), is)
+    unfolding linesFrom childrenFrom flatMap
+    lines-here within is = rw (filter-left-here (isChildOf w p) i (started w + 1) (omega arith) is)
 
     pub lines-next : i ≤ started w → isChildOf w p i ≡ false → linesFrom levels w depth p i ≡ linesFrom levels w depth p (i + 1)
-    unfolding linesFrom childrenFrom filter
-    lines-next within isnt = rw (left-next i (started w + 1) (omega arith), isnt)
+    unfolding linesFrom childrenFrom
+    lines-next within isnt = rw (filter-left-next (isChildOf w p) i (started w + 1) (omega arith) isnt)
 
 -- ---- the lines of an action: its own, and those of its children
 

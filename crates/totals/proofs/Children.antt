@@ -10,7 +10,7 @@ use Rattle.rules.specs.Table.{started, parentOf, isCommitted, actions, isChildO
 use Rattle.rules.specs.Sound.{IsStarted}
 use Rattle.rules.specs.Tree.{children, committedChildren}
 use Rattle.rules.proofs.Laws.Tests.{and-left, implies}
-use Rattle.rules.proofs.Laws.Ranges.{all-of, left-next, left-done}
+use Rattle.rules.proofs.Laws.Ranges.{all-of, filter-left-here, filter-left-next, filter-left-done}
 use Rattle.totals.specs.Total.{isCommittedChildOf, committedFrom}
 
 -- what is left by one test of what the other leaves is left by both
@@ -53,13 +53,13 @@ module _ (w : List ℕ) (p : ℕ) where
 
   module _ (i : ℕ) where
     pub children-done : started w < i → committedFrom w p i ≡ []
-    unfolding committedFrom filter
-    children-done over = rw (left-done i (started w + 1) (omega arith))
+    unfolding committedFrom
+    children-done over = filter-left-done (isCommittedChildOf w p) i (started w + 1) (omega arith)
 
     pub children-here : i ≤ started w → isCommittedChildOf w p i ≡ true → committedFrom w p i ≡ i ∷ committedFrom w p (i + 1)
-    unfolding committedFrom filter
-    children-here within is = rw (left-next i (started w + 1) (omega arith), is)
+    unfolding committedFrom
+    children-here within is = filter-left-here (isCommittedChildOf w p) i (started w + 1) (omega arith) is
 
     pub children-next : i ≤ started w → isCommittedChildOf w p i ≡ false → committedFrom w p i ≡ committedFrom w p (i + 1)
-    unfolding committedFrom filter
-    children-next within isnt = rw (left-next i (started w + 1) (omega arith), isnt)
+    unfolding committedFrom
+    children-next within isnt = filter-left-next (isCommittedChildOf w p) i (started w + 1) (omega arith) isnt

@@ -326,6 +326,20 @@ module _ (f : ℕ → Bool) (a end : ℕ) where
   unfolding count
   count-left-done h = rw (left-done a end h)
 
+module _ (f : ℕ → Bool) (a end : ℕ) where
+  -- the first of what is left is kept, or it is passed over
+  pub filter-left-here : a < end → f a ≡ true → filter f (upFrom a (end - a)) ≡ a ∷ filter f (upFrom (a + 1) (end - (a + 1)))
+  unfolding filter
+  filter-left-here h p = rw (left-next a end h, p)
+
+  pub filter-left-next : a < end → f a ≡ false → filter f (upFrom a (end - a)) ≡ filter f (upFrom (a + 1) (end - (a + 1)))
+  unfolding filter
+  filter-left-next h p = rw (left-next a end h, p)
+
+  pub filter-left-done : end ≤ a → filter f (upFrom a (end - a)) ≡ []
+  unfolding filter
+  filter-left-done h = rw (left-done a end h)
+
 pub fold-left-next :
     {A : Type 0} (f : ℕ → A → A) (a end : ℕ) (s : A) → a < end →
     fold f (upFrom a (end - a)) s ≡ fold f (upFrom (a + 1) (end - (a + 1))) (f a s)
