@@ -13,13 +13,13 @@
  * Numbers of the refusals:
  *    1  the base store is not 1,024 bytes, or the shadow store not 65,536
  *    2  the table is not sound, or not MUNDZAVCH_TABLE_WORDS long
- *    3  the event's code is not 1 to 6
+ *    3  the event's code is not 1 to 8
  *    4  the number is above the last start, or 0 where the event is no start
  *    5  the number names an action that is not live
  *    6  a start when 64 actions have started
  *    7  a read, a write or an add, and the account is above 31
  *    8  a write or an add, and the card is not 32 bytes
- *    9  a read, a write, a commit or an add while a child of the action is live
+ *    9  a read, a write, a commit, an add or an enter while a child of the action is live
  *   10  a day file, or a list of events, that is too short or too long; a list's answers have no room
  *   11  a day file's count is above its limit
  *   12  a day file's opening accounts do not rise, or one is above 31
@@ -28,15 +28,25 @@
  *   15  a sum that 64 signed bits do not hold: the pending sum or the own adds that an add would leave, the sum that a
  *       read would give, or one that a commit without a clash would leave at the parent, where the action stays live;
  *       or a total or a sum of a tree
- * An event's refusals are asked in the order 1 to 8, 13, 14, 9, 15, and the first that applies is given. A list asks 1,
- * 2, then 10. A day asks 1, then 2 for the table's length alone, then its file, in an order of its own: 10 where it is
- * empty, 11 for the count of cards, 10 where it ends before the count of events, 11 for that count, 10 for its length,
- * 12 for its accounts. So a file of the one byte 33 is cut, and is refused 11. A tree asks 1, also for the opening
- * store, then 2, then 15; a day's tree asks 1 likewise, and then what a day asks.
+ *   16  any event but a judge or an abort, and the number names an action in the queue
+ *   17  a judge, and the action is not in the queue, or is ready already
+ *   18  a commit while the queue is not empty
+ * An event's refusals are asked in the order 1 to 8, 13, 14, 9, 16, 17, 18, 15, and the first that applies is given. A
+ * list asks 1, 2, then 10. A day asks 1, then 2 for the table's length alone, then its file, in an order of its own: 10
+ * where it is empty, 11 for the count of cards, 10 where it ends before the count of events, 11 for that count, 10 for
+ * its length, 12 for its accounts. So a file of the one byte 33 is cut, and is refused 11. A tree asks 1, also for the
+ * opening store, then 2, then 15; a day's tree asks 1 likewise, and then what a day asks.
  *
  * Accounts 24 to 31 are charge accounts. The first 8 bytes of such a card are an amount in cents, a signed 64-bit
  * number in two's complement, low byte first; the other 24 are the caller's own. An add joins the action's pending sum,
  * which a commit adds to the parent's, or to the amount in the base store.
+ *
+ * In place of a commit an action may enter the queue, where it does nothing more and waits. Whether it has failed is
+ * settled as it enters, against the children of its parent that have committed or wait before it, and a judge reveals
+ * it: one that failed is taken out and aborted, any other is ready. After a judge, and after an abort, the head leaves
+ * while it is ready: it commits, or is aborted where 64 signed bits do not hold a sum that its commit would leave. The
+ * answer says how many left, and none says who: a caller sees that only by what is live afterwards, for instance by the
+ * states in the lines of mundzavch_tree.
  */
 #ifndef MUNDZAVCH_H
 #define MUNDZAVCH_H
@@ -51,8 +61,9 @@ extern "C" {
 /* Sizes. compare/build.rs reads these lines, and the values of the two enums below: plain numbers, one to a line. */
 #define MUNDZAVCH_ACTIONS 64          /* that a table sees in its life, numbered from 1 */
 #define MUNDZAVCH_ACCOUNTS 32         /* numbered from 0 */
-#define MUNDZAVCH_ROW_WORDS 83        /* uint64_t words in a row of a table: a head, then a row for each action */
-#define MUNDZAVCH_TABLE_WORDS 5395    /* uint64_t words in a table */
+#define MUNDZAVCH_ROW_WORDS 86        /* uint64_t words in a row of a table: a head, then a row for each action, with
+                                         as many places of the queue */
+#define MUNDZAVCH_TABLE_WORDS 5590    /* uint64_t words in a table */
 #define MUNDZAVCH_CARD_BYTES 32
 #define MUNDZAVCH_BASE_BYTES 1024     /* byte 32 k is the first of account k's card */
 #define MUNDZAVCH_SHADOW_BYTES 65536  /* byte 1024 (n - 1) + 32 k is the first of action n's card for account k */
@@ -72,23 +83,31 @@ enum {
     MUNDZAVCH_EVENT_WRITE = 3,
     MUNDZAVCH_EVENT_COMMIT = 4,
     MUNDZAVCH_EVENT_ABORT = 5,
-    MUNDZAVCH_EVENT_ADD = 6 /* of the amount in the first 8 bytes of the card, whose others are not looked at */
+    MUNDZAVCH_EVENT_ADD = 6,   /* of the amount in the first 8 bytes of the card, whose others are not looked at */
+    MUNDZAVCH_EVENT_ENTER = 7, /* the queue, behind its tail */
+    MUNDZAVCH_EVENT_JUDGE = 8  /* an action in the queue, wherever it stands there */
 };
 
 /* Kinds of answers, with what `first`, `second` and `third` are. A number that a kind does not have is 0. */
 enum {
-    MUNDZAVCH_ANSWER_REFUSED = 0,   /* first: the number of the refusal */
-    MUNDZAVCH_ANSWER_STARTED = 1,   /* first: the new action's number */
-    MUNDZAVCH_ANSWER_READ = 2,      /* first: the action whose card was read, 0 for the base store;
-                                       second: how many moves up it was found, 0 for the action's own card */
+    MUNDZAVCH_ANSWER_REFUSED = 0,       /* first: the number of the refusal */
+    MUNDZAVCH_ANSWER_STARTED = 1,       /* first: the new action's number */
+    MUNDZAVCH_ANSWER_READ = 2,          /* first: the action whose card was read, 0 for the base store;
+                                           second: how many moves up it was found, 0 for the action's own card */
     MUNDZAVCH_ANSWER_WRITTEN = 3,
-    MUNDZAVCH_ANSWER_COMMITTED = 4, /* first: the end time, 0 where nothing was written */
-    MUNDZAVCH_ANSWER_FAILED = 5,    /* a clash, and the action is aborted; first: its end time, second: its account */
-    MUNDZAVCH_ANSWER_ABORTED = 6,   /* first: how many actions became aborted */
+    MUNDZAVCH_ANSWER_COMMITTED = 4,     /* first: the end time, 0 where nothing was written */
+    MUNDZAVCH_ANSWER_FAILED = 5,        /* a commit with a clash, and the action is aborted; first: the clash's end
+                                           time, second: its account */
+    MUNDZAVCH_ANSWER_ABORTED = 6,       /* first: how many actions became aborted; second: how many then left the
+                                           queue, which the first does not count */
     MUNDZAVCH_ANSWER_ADDED = 7,
-    MUNDZAVCH_ANSWER_READ_SUM = 8   /* a read of a charge account; first: 0, for the base store; second: how many moves
-                                       up that is; (int64_t)third: the base amount and the pending sums of the action
-                                       and of every action above it */
+    MUNDZAVCH_ANSWER_READ_SUM = 8,      /* a read of a charge account; first: 0, for the base store; second: how many
+                                           moves up that is; (int64_t)third: the base amount and the pending sums of
+                                           the action and of every action above it */
+    MUNDZAVCH_ANSWER_ENTERED = 9,
+    MUNDZAVCH_ANSWER_READY = 10,        /* first: how many then left the queue, the judged action too where it did */
+    MUNDZAVCH_ANSWER_JUDGED_FAILED = 11 /* a judge, and the action is aborted; first: how many then left the queue,
+                                           which does not count it */
 };
 
 /* Makes a new table of the words, whatever they held. Returns 0, or 2 where `words` is not MUNDZAVCH_TABLE_WORDS. */
@@ -99,15 +118,15 @@ uint64_t mundzavch_started(const uint64_t *table, size_t words);
 uint64_t mundzavch_counter(const uint64_t *table, size_t words);
 
 /* One event. An event ignores the parts that it does not use. Returns the answer's kind; its numbers are in *first,
- * *second and *third. Refusals: 1 to 9 and 13 to 15. */
+ * *second and *third. Refusals: 1 to 9 and 13 to 18. */
 uint64_t mundzavch_event(uint64_t *table, size_t words, uint8_t *base, size_t base_bytes, uint8_t *shadow,
                          size_t shadow_bytes, uint64_t code, uint64_t number, uint64_t account, const uint8_t *card,
                          size_t card_bytes, uint64_t *first, uint64_t *second, uint64_t *third);
 
 /* The card that a read of this action and account would be given now, copied to the 32 bytes at `card`, and in *moves
  * how many moves up it was found; nothing is recorded. Of a charge account it is the base card as it stands, without
- * pending sums. Returns 0, or the number with which the read would be refused (1, 2, 4, 5, 7, 9 or 15); then `card`
- * stays, and *moves is 0. */
+ * pending sums. Returns 0, or the number with which the read would be refused (1, 2, 4, 5, 7, 9, 15 or 16); then
+ * `card` stays, and *moves is 0. */
 uint64_t mundzavch_look(const uint64_t *table, size_t words, const uint8_t *base, size_t base_bytes,
                         const uint8_t *shadow, size_t shadow_bytes, uint64_t number, uint64_t account, uint8_t *card,
                         uint64_t *moves);

@@ -1,10 +1,11 @@
 // Going up the parents.
 ghost use mathlib.Core.Path.{_≡_};
 ghost use Rattle.rules.specs.Card.{IsPlain};
-ghost use Rattle.rules.specs.Walk.{isAtOrBelow};
+ghost use Rattle.rules.specs.Walk.{isAtOrBelow, isAbortedBy};
 ghost use Rattle.rules.specs.Nearest.{version};
 ghost use Rattle.ancestry.specs.Ancestry.{ParentsBelow, IsKnown, Readable, HasMovesLeft, countedOn};
 use rows::fields::has_written;
+use rows::fields::is_live;
 use rows::fields::parent;
 use rules::Version;
 use rules::table::NO_MOVES;
@@ -53,4 +54,16 @@ pub fn is_at_or_below(table: &[u64], a: u64, m: u64) -> bool
         at = parent(table, at);
     }
     false
+}
+
+// An abort of a reaches action m.
+pub fn is_aborted_by(table: &[u64], a: u64, m: u64) -> bool
+    requires { ⌜ ParentsBelow (now table) ⌝ }
+    requires { ⌜ IsKnown (now table) m ⌝ }
+    ensures { λ r. ⌜ r ≡ isAbortedBy (now (table .entry)) a m ⌝ }
+{
+    if !is_live(table, m) {
+        return false;
+    }
+    is_at_or_below(table, a, m)
 }

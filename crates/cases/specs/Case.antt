@@ -5,11 +5,11 @@ use mathlib.Core.List.{List, [], _∷_, map}
 use lib.ListN.{replicate}
 use lib.IntN.{ℤ, pos, negℤ}
 use Rattle.rules.specs.declared.Answer.{Answer}
-use Rattle.rules.specs.declared.Answer.the-variants.{Started, Read, ReadSum, Written, Added, Committed, Failed, Aborted, Refused}
+use Rattle.rules.specs.declared.Answer.the-variants.{Started, Read, ReadSum, Written, Added, Entered, Ready, JudgedFailed, Committed, Failed, Aborted, Refused}
 use Rattle.rules.specs.Card.{cardLength, baseLength, shadowLength, basePlace, cardAt}
 use Rattle.rules.specs.Amount.{withAmount}
 use Rattle.rules.specs.Table.{newTable, started, counter}
-use Rattle.rules.specs.Event.{Event, eventOf, startUnder, readBy, writeBy, commitOf, abortOf, addBy}
+use Rattle.rules.specs.Event.{Event, eventOf, startUnder, readBy, writeBy, commitOf, abortOf, addBy, enterOf, judgeOf}
 use Rattle.rules.specs.Look.{look, bytesOf}
 use Rattle.rules.specs.Ledger.{Ledger}
 use Rattle.rules.specs.Run.{run}
@@ -130,7 +130,7 @@ cases =
     (startUnder 0 ∷ writeBy 1 3 (filledWith 1) ∷ startUnder 1 ∷ readBy 2 3 ∷ writeBy 2 3 (filledWith 2) ∷ abortOf 2 ∷ readBy 1 3 ∷ [])
     [] (at 1 3 ∷ []))
     (giving
-    (Started 1 ∷ Written ∷ Started 2 ∷ Read 1 1 ∷ Written ∷ Aborted 1 ∷ Read 1 0 ∷ []) 2 0 [] (showing 1 0 ∷ []))
+    (Started 1 ∷ Written ∷ Started 2 ∷ Read 1 1 ∷ Written ∷ Aborted 1 0 ∷ Read 1 0 ∷ []) 2 0 [] (showing 1 0 ∷ []))
     -- 7
     ∷ case
     (asking (startUnder 0 ∷ startUnder 1 ∷ readBy 1 0 ∷ commitOf 1 ∷ []) [] [])
@@ -157,7 +157,7 @@ cases =
     -- 10
     ∷ case
     (asking (startUnder 0 ∷ startUnder 1 ∷ startUnder 2 ∷ abortOf 1 ∷ commitOf 2 ∷ []) [] [])
-    (giving (Started 1 ∷ Started 2 ∷ Started 3 ∷ Aborted 3 ∷ Refused 5 ∷ []) 3 0 [] [])
+    (giving (Started 1 ∷ Started 2 ∷ Started 3 ∷ Aborted 3 0 ∷ Refused 5 ∷ []) 3 0 [] [])
     -- 13
     ∷ case
     (asking
@@ -207,7 +207,7 @@ cases =
     (asking
     (startUnder 0 ∷ startUnder 1 ∷ adding 1 5 0 ∷ adding 1 24 2000000 ∷ adding 1 24 1 ∷ adding 2 40 1 ∷ adding 2 23 1
     ∷ writeBy 2 24 (filledWith 0) ∷ adding 2 24 1000001 ∷ taking 2 24 1000001 ∷ adding 2 24 1000000 ∷ taking 2 31 1000000
-    ∷ eventOf 7 2 24 (filledWith 0) ∷ commitOf 1 ∷ []) [] [])
+    ∷ eventOf 9 2 24 (filledWith 0) ∷ commitOf 1 ∷ []) [] [])
     (giving
     (Started 1 ∷ Started 2 ∷ Refused 13 ∷ Refused 14 ∷ Refused 9 ∷ Refused 7 ∷ Refused 13
     ∷ Refused 13 ∷ Refused 14 ∷ Refused 14 ∷ Added ∷ Added
@@ -256,4 +256,39 @@ cases =
     ∷ commitOf 2 ∷ []) [] [])
     (giving
     (Started 1 ∷ Written ∷ Started 2 ∷ Started 3 ∷ Read 1 1 ∷ Written ∷ Committed 1 ∷ Failed 1 3 ∷ []) 3 1 [] [])
+    -- 26
+    ∷ case
+    (asking
+    (startUnder 0 ∷ startUnder 0 ∷ writeBy 1 5 (filledWith 7) ∷ writeBy 2 5 (filledWith 8) ∷ enterOf 1 ∷ enterOf 2 ∷ judgeOf 2
+    ∷ judgeOf 1 ∷ []) (5 ∷ []) [])
+    (giving
+    (Started 1 ∷ Started 2 ∷ Written ∷ Written ∷ Entered ∷ Entered ∷ Ready 0 ∷ Ready 2 ∷ []) 2 2 (filledWith 8 ∷ []) [])
+    -- 27
+    ∷ case
+    (asking
+    (startUnder 0 ∷ startUnder 0 ∷ readBy 2 0 ∷ writeBy 1 0 (filledWith 1) ∷ enterOf 1 ∷ enterOf 2 ∷ judgeOf 1 ∷ judgeOf 2 ∷ [])
+    [] [])
+    (giving
+    (Started 1 ∷ Started 2 ∷ Read 0 1 ∷ Written ∷ Entered ∷ Entered ∷ Ready 1 ∷ JudgedFailed 0 ∷ []) 2 1 [] [])
+    -- 28
+    ∷ case
+    (asking
+    (startUnder 0 ∷ startUnder 0 ∷ readBy 2 0 ∷ writeBy 1 0 (filledWith 1) ∷ enterOf 1 ∷ enterOf 2 ∷ abortOf 1 ∷ judgeOf 2 ∷ [])
+    [] [])
+    (giving
+    (Started 1 ∷ Started 2 ∷ Read 0 1 ∷ Written ∷ Entered ∷ Entered ∷ Aborted 1 0 ∷ JudgedFailed 0 ∷ []) 2 0 [] [])
+    -- 29
+    ∷ case
+    (asking
+    (startUnder 0 ∷ startUnder 0 ∷ writeBy 2 1 (filledWith 1) ∷ enterOf 1 ∷ enterOf 2 ∷ judgeOf 2 ∷ abortOf 1 ∷ []) (1 ∷ []) [])
+    (giving
+    (Started 1 ∷ Started 2 ∷ Written ∷ Entered ∷ Entered ∷ Ready 0 ∷ Aborted 1 1 ∷ []) 2 1 (filledWith 1 ∷ []) [])
+    -- 30
+    ∷ case
+    (asking
+    (startUnder 0 ∷ startUnder 0 ∷ enterOf 1 ∷ readBy 1 0 ∷ startUnder 1 ∷ commitOf 1 ∷ commitOf 2 ∷ judgeOf 2 ∷ judgeOf 1
+    ∷ judgeOf 1 ∷ commitOf 2 ∷ []) [] [])
+    (giving
+    (Started 1 ∷ Started 2 ∷ Entered ∷ Refused 16 ∷ Refused 16 ∷ Refused 16 ∷ Refused 18 ∷ Refused 17 ∷ Ready 1
+    ∷ Refused 5 ∷ Committed 0 ∷ []) 2 0 [] [])
     ∷ []

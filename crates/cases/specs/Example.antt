@@ -1,13 +1,14 @@
 -- One list worked through as a serial run: a child that commits stands at its commit, one that gives up is nowhere; what was
--- added is seen by who adds and settled at the end. proofs/Cases.antt computes it. Assumes nothing.
+-- added is seen by who adds and settled at the end, where the topaction commits by leaving the queue. proofs/Cases.antt computes it. Assumes nothing.
 use Prim.Native.Nat.{ℕ}
 use mathlib.Core.Option.{none, some}
 use mathlib.Core.List.{List, [], _∷_}
 use lib.IntN.{pos}
 use Rattle.rules.specs.Card.{basePlace, cardAt}
-use Rattle.rules.specs.Event.{Event, startUnder, readBy, writeBy, commitOf, abortOf}
+use Rattle.rules.specs.Event.{Event, startUnder, readBy, writeBy, commitOf, abortOf, enterOf, judgeOf}
 use Rattle.rules.specs.Run.{run}
 use Rattle.cases.specs.Case.{opening, filledWith, amountCard, adding, taking}
+use Rattle.rules.specs.Serial.Told.{toldAll}
 use Rattle.rules.specs.Serial.Machine.{Given, serial}
 
 unfoldable pub example : List Event
@@ -27,10 +28,11 @@ example =
     ∷ writeBy 3 0 (filledWith 9)
     ∷ adding 3 24 9
     ∷ abortOf 3
-    -- 1 reads both again, and commits
+    -- 1 reads both again, waits to be judged, and commits as it leaves the queue
     ∷ readBy 1 0
     ∷ readBy 1 24
-    ∷ commitOf 1
+    ∷ enterOf 1
+    ∷ judgeOf 1
     ∷ []
 
 -- what the serial run gives its reads, and the cards of accounts 0 and 24 that it leaves
@@ -41,7 +43,8 @@ pub record Serially : Type 0 where
 
 unfoldable pub exampleRun : Serially
 exampleRun =
-    let m = serial example (run opening example .answers) (opening .base) in
+    let ran = run opening example in
+    let m = serial example (toldAll (ran .answers) (ran .leavers)) (opening .base) in
     record { given = m .given; left = cardAt (m .base) (basePlace 0); charged = cardAt (m .base) (basePlace 24) }
 
 -- the reads at places 1, 6, 12 and 13

@@ -3,20 +3,20 @@ use Prim.Native.Nat.{ℕ, _≤_, _<_}
 use native.Mathlib.Omega.{arith}
 use mathlib.Core.Path.{_≡_, refl, sym, _∙_}
 use mathlib.Core.Logic.{⊎-elim, _≢_}
-use mathlib.Core.Bool.{Bool, true, false, not, cond, _&&_, _||_, and-false, or-false}
+use mathlib.Core.Bool.{Bool, true, not, cond, _&&_, and-false, or-false}
 use mathlib.Core.List.{List, [], _∷_, _++_}
 use borrow.Author.Tests.{le-leb, lt-leb, le-ltb, eq-eqb, ne-eqb, not-false, eqb-true, eqb-false, ltb-true}
 use lib.Dec.{eqb, ltb}
-use lib.ListN.{length}
+use lib.ListN.{length, drop}
 use Rattle.rules.specs.Card.{accountCount, baseLength, shadowLength, StoresFit}
 use Rattle.rules.specs.Table.{started, isLive}
 use Rattle.rules.specs.Sound.{sound, Sound}
-use Rattle.rules.specs.Event.{Event, startCode, readCode, writeCode, commitCode, abortCode, addCode, isRead, isWrite, isCommit, isAdd}
-use Rattle.rules.specs.Cause.{Cause, firstCause, isStoreLengthWrong, cardLengthCause, isCardLengthWrong, kindCause, isKindWrong, amountCause, isAmountTooLarge, sumCause, isSumOutside, storeCauses, earlyCauses, lateCauses, causesOf, causeOf}
+use Rattle.rules.specs.Event.{Event, eventOf, startCode, readCode, writeCode, commitCode, abortCode, addCode, enterCode, judgeCode}
+use Rattle.rules.specs.Cause.{Cause, firstCause, isStoreLengthWrong, queueCause, isOvertaking, sumCause, isSumOutside, storeCauses, earlyCauses, lateCauses, causesOf, causeOf}
 use Rattle.rules.proofs.Laws.Tests.{and-left, and-right, test, cond-holds}
 use Rattle.rules.proofs.Laws.Allowed.{not-given, stores-fit}
 use Rattle.rules.proofs.Sound.Soundness.{facts, tested}
-use Rattle.causes.specs.Groups.{startCauses, writeCauses, addCauses, cardCauses, childCauses, kindCauses}
+use Rattle.causes.specs.Groups.{startCauses, writeCauses, addCauses, cardCauses, busyCauses, accountCauses, commitCauses, judgeCauses, kindCauses}
 
 -- ---- causes, and others behind them
 
@@ -79,7 +79,7 @@ module _ (w base shadow : List ℕ) where
     unfolding causeOf causesOf storeCauses
     event-refused asked given = stores-refused (earlyCauses w e ++ lateCauses w base e) asked given
 
-    -- one of the causes 3 to 14 applies: it is given
+    -- one of the early causes applies: it is given
     pub event-asked :
         Accepted w base shadow → cause ≡ firstCause (earlyCauses w e) → cause ≢ 0 → causeOf w base shadow e ≡ cause
     unfolding causeOf causesOf storeCauses
@@ -99,42 +99,52 @@ module _ (w base shadow : List ℕ) where
 
 -- ---- the causes of an event, by its kind
 
--- from a read's code on, an event that is neither a commit nor an abort uses its account, and is asked of live children
-pub touches :
-    (e : Event) → (readCode ≤ e .code) × (e .code ≤ addCode) → e .code ≢ commitCode → e .code ≢ abortCode →
-    ((isRead e || isWrite e || isAdd e) ≡ true) × ((isRead e || isWrite e || isCommit e || isAdd e) ≡ true)
-touches e between no-commit no-abort =
-    ⊎-elim
-    (λ reads. rw (eqb-true (e .code) readCode reads) (refl, refl))
-    (λ no-read.
-    ⊎-elim
-    (λ writes. rw (eqb-true (e .code) writeCode writes) (refl, refl))
-    (λ no-write.
-    let adds : e .code ≡ addCode = omega (arith, eqb-false (e .code) readCode no-read, eqb-false (e .code) writeCode no-write) in
-    rw adds (refl, refl))
-    (test (isWrite e)))
-    (test (isRead e))
+module _ (w : List ℕ) (e : Event) (known : e .number ≤ started w) where
+  pub causes-of-start : e .code ≡ startCode → firstCause (earlyCauses w e) ≡ firstCause (startCauses w (e .number))
+  unfolding earlyCauses startCauses
+  causes-of-start is = rw (is, le-ltb (started w) (e .number) known, and-false (eqb (e .number) 0))
 
--- the causes that an event's card has by the rules are those that are asked by its code
-module _ (e : Event) (more : List Cause) where
-  abbrev ofCard : List Cause
-  ofCard =
-      record { number = cardLengthCause; applies = isCardLengthWrong (isWrite e || isAdd e) (e .card) }
-      ∷ record { number = kindCause; applies = isKindWrong e }
-      ∷ record { number = amountCause; applies = isAmountTooLarge (isAdd e) (e .card) }
-      ∷ more
+-- what holds of the code of each event but a start holds of any of them
+by-code :
+    (P : ℕ → Type 0) (code : ℕ) → (readCode ≤ code) × (code ≤ judgeCode) →
+    P readCode → P writeCode → P commitCode → P abortCode → P addCode → P enterCode → P judgeCode → P code
+by-code P code (least, most) reads writes commits aborts adds enters judges =
+    here-or-above readCode least reads
+    (λ above. here-or-above writeCode above writes
+    (λ above. here-or-above commitCode above commits
+    (λ above. here-or-above abortCode above aborts
+    (λ above. here-or-above addCode above adds
+    (λ above. here-or-above enterCode above enters
+    (λ above. let is : code ≡ judgeCode = omega arith in rw is judges))))))
+  where
+    here-or-above : (k : ℕ) → k ≤ code → P k → (k < code → P code) → P code
+    here-or-above k least here above =
+        ⊎-elim
+        (λ is. rw (eqb-true code k is) here)
+        (λ is-not. above (let ne : code ≢ k = eqb-false code k is-not in omega arith))
+        (test (eqb code k))
 
-  causes-of-card : firstCause ofCard ≡ firstCause (cardCauses (e .code) (e .account) (e .card) ++ more)
-  unfolding cardCauses writeCauses addCauses
-  causes-of-card =
-      ⊎-elim
-      (λ writes. rw (eqb-true (e .code) writeCode writes))
-      (λ (no-write : isWrite e ≡ false).
-      ⊎-elim
-      (λ adds. rw (eqb-true (e .code) addCode adds, or-false))
-      (λ (no-add : isAdd e ≡ false). rw (no-write, no-add))
-      (test (isAdd e)))
-      (test (isWrite e))
+module _ (w : List ℕ) (e : Event) (known : e .number ≤ started w) where
+  -- with another code, the causes from 7 on are those of its kind
+  abbrev ByKind : ℕ → Type 0
+  ByKind code =
+      let f = eventOf code (e .number) (e .account) (e .card) in
+      firstCause (drop 4 (earlyCauses w f)) ≡ firstCause (kindCauses w f)
+
+  pub causes-of-kind :
+      (startCode ≤ e .code) × (e .code ≤ judgeCode) → e .code ≢ startCode → e .number ≢ 0 → isLive w (e .number) ≡ true →
+      firstCause (earlyCauses w e) ≡ firstCause (kindCauses w e)
+  unfolding earlyCauses kindCauses accountCauses cardCauses writeCauses addCauses busyCauses commitCauses judgeCauses
+  causes-of-kind code other named alive =
+      rw (
+        le-leb startCode (e .code) (code .0),
+        le-leb (e .code) judgeCode (code .1),
+        le-ltb (started w) (e .number) known,
+        ne-eqb (e .code) startCode other,
+        ne-eqb (e .number) 0 named,
+        alive,
+      )
+      (by-code ByKind (e .code) (omega arith) refl refl refl refl (rw or-false) refl refl)
 
 card-causes-numbered : (code account : ℕ) (card : List ℕ) → areNumbered (cardCauses code account card) ≡ true
 unfolding cardCauses writeCauses addCauses
@@ -143,42 +153,34 @@ card-causes-numbered code account card =
     (λ _. refl)
     (λ _. cond-holds (λ cs. areNumbered cs ≡ true) (eqb code addCode) (λ _. refl) (λ _. refl))
 
--- where the account is known they are asked first, and then that no child is live
+-- where the account is known the causes of the card are asked first, and then those of a busy action
 module _ (w : List ℕ) (e : Event) (account : e .account < accountCount) where
-  abbrev cardCause : ℕ
-  cardCause = firstCause (cardCauses (e .code) (e .account) (e .card))
+  abbrev ofCard : List Cause
+  ofCard = cardCauses (e .code) (e .account) (e .card)
 
-  kind-from-card :
-      firstCause (kindCauses w e)
-      ≡ firstCause (cardCauses (e .code) (e .account) (e .card) ++ childCauses w e)
-  unfolding kindCauses
-  kind-from-card = rw (lt-leb accountCount (e .account) account, and-false (isRead e || isWrite e || isAdd e))
+  abbrev ofBusy : List Cause
+  ofBusy = busyCauses w (e .number)
 
-  pub card-refused : cardCause ≢ 0 → firstCause (kindCauses w e) ≡ cardCause
-  card-refused given = kind-from-card ∙ front-given (cardCauses (e .code) (e .account) (e .card)) (childCauses w e) given
+  account-known : firstCause (accountCauses w e) ≡ firstCause (ofCard ++ ofBusy)
+  unfolding accountCauses
+  account-known = rw (lt-leb accountCount (e .account) account)
 
-  pub card-passed : cardCause ≡ 0 → firstCause (kindCauses w e) ≡ firstCause (childCauses w e)
+  pub card-refused : firstCause ofCard ≢ 0 → firstCause (accountCauses w e) ≡ firstCause ofCard
+  card-refused given = account-known ∙ front-given ofCard ofBusy given
+
+  pub card-passed : firstCause ofCard ≡ 0 → firstCause (accountCauses w e) ≡ firstCause ofBusy
   card-passed none =
-      kind-from-card
-      ∙ front-passed (cardCauses (e .code) (e .account) (e .card)) (childCauses w e)
-      (card-causes-numbered (e .code) (e .account) (e .card)) none
+      account-known ∙ front-passed ofCard ofBusy (card-causes-numbered (e .code) (e .account) (e .card)) none
 
-module _ (w : List ℕ) (e : Event) (known : e .number ≤ started w) where
-  pub causes-of-start : e .code ≡ startCode → firstCause (earlyCauses w e) ≡ firstCause (startCauses w (e .number))
-  unfolding earlyCauses startCauses
-  causes-of-start is = rw (is, le-ltb (started w) (e .number) known, and-false (eqb (e .number) 0))
+-- of a commit those of a busy action are asked first, and then that of the queue
+module _ (w : List ℕ) (n : ℕ) where
+  abbrev ofQueue : List Cause
+  ofQueue = record { number = queueCause; applies = isOvertaking w true } ∷ []
 
-  pub causes-of-kind :
-      (startCode ≤ e .code) × (e .code ≤ addCode) → e .code ≢ startCode → e .number ≢ 0 → isLive w (e .number) ≡ true →
-      firstCause (earlyCauses w e) ≡ firstCause (kindCauses w e)
-  unfolding earlyCauses kindCauses
-  causes-of-kind code other named alive =
-      rw (
-        le-leb startCode (e .code) (code .0),
-        le-leb (e .code) addCode (code .1),
-        le-ltb (started w) (e .number) known,
-        ne-eqb (e .code) startCode other,
-        ne-eqb (e .number) 0 named,
-        alive,
-        ← causes-of-card e,
-      )
+  pub busy-refused : firstCause (busyCauses w n) ≢ 0 → firstCause (commitCauses w n) ≡ firstCause (busyCauses w n)
+  unfolding commitCauses
+  busy-refused given = front-given (busyCauses w n) ofQueue given
+
+  pub busy-passed : firstCause (busyCauses w n) ≡ 0 → firstCause (commitCauses w n) ≡ firstCause ofQueue
+  unfolding commitCauses busyCauses
+  busy-passed none = front-passed (busyCauses w n) ofQueue refl none

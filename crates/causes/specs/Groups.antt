@@ -1,18 +1,19 @@
--- RULES 8.1: the causes that are asked together; of an event they are those of `earlyCauses` that are left
+-- RULES 8.1: the causes that are asked together, by the kind of the event; they are those of `earlyCauses` that are left
 -- (proofs/Grouped.antt). Assumes nothing.
 use Prim.Native.Nat.{ℕ}
-use mathlib.Core.Bool.{true, not, cond, _||_}
+use mathlib.Core.Bool.{true, not, cond}
 use mathlib.Core.List.{List, [], _∷_, _++_}
 use lib.Dec.{eqb}
 use Rattle.rules.specs.Card.{isCharge}
-use Rattle.rules.specs.Event.{Event, writeCode, addCode, isRead, isWrite, isCommit, isAdd}
-use Rattle.rules.specs.Cause.{Cause, notLiveCause, isNotLive, tableFullCause, isTableFull, accountCause, isAccountUnknown, cardLengthCause, isCardLengthWrong, kindCause, amountCause, isAmountTooLarge, childLiveCause, isChildLive}
+use Rattle.rules.specs.Event.{Event, writeCode, addCode, isCommit, isAbort, isEnter, isJudge}
+use Rattle.rules.specs.Cause.{Cause, notLiveCause, isNotLive, tableFullCause, isTableFull, accountCause, isAccountUnknown, cardLengthCause, isCardLengthWrong, kindCause, amountCause, isAmountTooLarge, childLiveCause, isChildLive, queuedCause, isWaiting, judgeCause, isJudgeVain, queueCause, isOvertaking}
 
 -- of a start under a number that is known
 unfoldable pub startCauses : List ℕ → ℕ → List Cause
 startCauses w n =
     record { number = notLiveCause; applies = isNotLive w n }
     ∷ record { number = tableFullCause; applies = isTableFull w true }
+    ∷ record { number = queuedCause; applies = isWaiting w true n }
     ∷ []
 
 -- of a write and of an add, from account and card
@@ -34,14 +35,32 @@ unfoldable pub cardCauses : ℕ → ℕ → List ℕ → List Cause
 cardCauses code account card =
     cond (eqb code writeCode) (writeCauses account card) (cond (eqb code addCode) (addCauses account card) [])
 
--- of an event that needs an action without live children
-abbrev pub childCauses : List ℕ → Event → List Cause
-childCauses w e =
-    record { number = childLiveCause; applies = isChildLive w (isRead e || isWrite e || isCommit e || isAdd e) (e .number) } ∷ []
+-- of an action that is busy: a child of it is live, or it is queued
+unfoldable pub busyCauses : List ℕ → ℕ → List Cause
+busyCauses w n =
+    record { number = childLiveCause; applies = isChildLive w true n }
+    ∷ record { number = queuedCause; applies = isWaiting w true n }
+    ∷ []
+
+-- of a read, a write and an add
+unfoldable pub accountCauses : List ℕ → Event → List Cause
+accountCauses w e =
+    record { number = accountCause; applies = isAccountUnknown true (e .account) }
+    ∷ cardCauses (e .code) (e .account) (e .card)
+    ++ busyCauses w (e .number)
+
+-- of a commit
+unfoldable pub commitCauses : List ℕ → ℕ → List Cause
+commitCauses w n = busyCauses w n ++ (record { number = queueCause; applies = isOvertaking w true } ∷ [])
+
+-- of a judge
+unfoldable pub judgeCauses : List ℕ → ℕ → List Cause
+judgeCauses w n = record { number = judgeCause; applies = isJudgeVain w true n } ∷ []
 
 -- of any event but a start, by an action that is live
 unfoldable pub kindCauses : List ℕ → Event → List Cause
 kindCauses w e =
-    record { number = accountCause; applies = isAccountUnknown (isRead e || isWrite e || isAdd e) (e .account) }
-    ∷ cardCauses (e .code) (e .account) (e .card)
-    ++ childCauses w e
+    cond (isAbort e) []
+    (cond (isJudge e) (judgeCauses w (e .number))
+    (cond (isCommit e) (commitCauses w (e .number))
+    (cond (isEnter e) (busyCauses w (e .number)) (accountCauses w e))))

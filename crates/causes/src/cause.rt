@@ -1,15 +1,17 @@
 // Why a call is refused: the number of the first cause that applies.
 ghost use mathlib.Core.Path.{_≡_};
-ghost use mathlib.Core.Bool.{cond};
 ghost use Prim.Native.Nat.{_≤_};
-ghost use Rattle.rules.specs.Table.{started, hasLiveChild};
+ghost use Rattle.rules.specs.Table.{started};
 ghost use Rattle.rules.specs.Sound.{Sound};
-ghost use Rattle.rules.specs.Event.{eventOf, readCode, addCode};
-ghost use Rattle.rules.specs.Cause.{firstCause, childLiveCause, storeCauses, earlyCauses};
-ghost use Rattle.causes.specs.Groups.{startCauses, kindCauses, cardCauses, writeCauses, addCauses};
+ghost use Rattle.rules.specs.Event.{eventOf};
+ghost use Rattle.rules.specs.Cause.{firstCause, storeCauses, earlyCauses};
+ghost use Rattle.causes.specs.Groups.{startCauses, kindCauses, accountCauses, cardCauses, writeCauses, addCauses};
+use crate::busy::busy_cause;
+use crate::busy::commit_cause;
+use crate::busy::judge_cause;
+use crate::busy::queued_cause;
 use amounts::bytes::word_at;
 use amounts::limit::is_addable;
-use ancestry::children::has_live_child;
 use rows::fields::is_live;
 use rows::fields::last_start;
 use rules::amount::AMOUNT_AT;
@@ -48,7 +50,7 @@ pub fn event_cause(table: &[u64], code: u64, number: u64, account: u64, card: &[
     if code < event::START {
         return cause::CODE;
     }
-    if event::ADD < code {
+    if event::JUDGE < code {
         return cause::CODE;
     }
     if last_start(table) < number {
@@ -66,7 +68,7 @@ pub fn event_cause(table: &[u64], code: u64, number: u64, account: u64, card: &[
     kind_cause(table, code, number, account, card)
 }
 
-// Causes 5 and 6, of a start under a number that is known.
+// Causes 5, 6 and 16, of a start under a number that is known.
 fn start_cause(table: &[u64], number: u64) -> u64
     requires { ⌜ Sound (now table) ⌝ }
     requires { ⌜ number ≤ started (now table) ⌝ }
@@ -80,21 +82,34 @@ fn start_cause(table: &[u64], number: u64) -> u64
     if MOST_ACTIONS <= last_start(table) {
         return cause::TABLE_FULL;
     }
-    cause::NONE
+    queued_cause(table, number)
 }
 
 // The causes from 7 on, of an event that is no start, by an action that is live.
 fn kind_cause(table: &[u64], code: u64, number: u64, account: u64, card: &[u8]) -> u64
     requires { ⌜ Sound (now table) ⌝ }
-    requires { ⌜ (readCode ≤ code) × (code ≤ addCode) ⌝ }
     ensures { λ r. ⌜ r ≡ firstCause (kindCauses (now (table .entry)) (eventOf code number account (now (card .entry)))) ⌝ }
 {
     if code == event::ABORT {
         return cause::NONE;
     }
-    if code == event::COMMIT {
-        return child_cause(table, number);
+    if code == event::JUDGE {
+        return judge_cause(table, number);
     }
+    if code == event::COMMIT {
+        return commit_cause(table, number);
+    }
+    if code == event::ENTER {
+        return busy_cause(table, number);
+    }
+    account_cause(table, code, number, account, card)
+}
+
+// The causes from 7 on, of a read, a write or an add.
+fn account_cause(table: &[u64], code: u64, number: u64, account: u64, card: &[u8]) -> u64
+    requires { ⌜ Sound (now table) ⌝ }
+    ensures { λ r. ⌜ r ≡ firstCause (accountCauses (now (table .entry)) (eventOf code number account (now (card .entry)))) ⌝ }
+{
     if ACCOUNTS <= account {
         return cause::ACCOUNT;
     }
@@ -102,7 +117,7 @@ fn kind_cause(table: &[u64], code: u64, number: u64, account: u64, card: &[u8]) 
     if early != cause::NONE {
         return early;
     }
-    child_cause(table, number)
+    busy_cause(table, number)
 }
 
 // Causes 8, 13 and 14, by the code: only a write and an add have a card.
@@ -143,15 +158,4 @@ fn add_cause(account: u64, card: &[u8]) -> u64
         return cause::AMOUNT;
     }
     cause::NONE
-}
-
-fn child_cause(table: &[u64], number: u64) -> u64
-    requires { ⌜ Sound (now table) ⌝ }
-    ensures { λ r. ⌜ r ≡ cond (hasLiveChild (now (table .entry)) number) childLiveCause 0 ⌝ }
-{
-    if has_live_child(table, number) {
-        cause::CHILD_LIVE
-    } else {
-        cause::NONE
-    }
 }

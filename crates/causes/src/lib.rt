@@ -1,2 +1,3 @@
 // Why a call is refused.
+mod busy;
 pub mod cause;

@@ -27,7 +27,7 @@ use stores::place::cards_place;
 use validation::search::first_clash;
 
 // A commit that passes; back comes the end time.
-fn pass(table: &mut [u64], base: &mut [u8], shadow: &mut [u8], n: u64) -> u64
+pub(crate) fn pass(table: &mut [u64], base: &mut [u8], shadow: &mut [u8], n: u64) -> u64
     requires { ⌜ Sound (now table) ⌝ }
     requires { ⌜ IsStarted (now table) n ⌝ }
     requires { ⌜ StoresFit (now base) (now shadow) ⌝ }

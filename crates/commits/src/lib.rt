@@ -1,6 +1,7 @@
-// The commit of an action: judged, and passed or failed.
+// The commit of an action: judged, and passed or failed; and the end of one that has left the queue.
 pub mod commit;
 mod copy;
 mod end;
+pub mod finish;
 mod settle;
 mod sums;

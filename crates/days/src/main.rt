@@ -42,6 +42,11 @@ fn main() {
     print_day(b"sums-at-the-ends.day");
     print_day(b"tree.day");
     print_day(b"given-up-adds.day");
+    print_day(b"queue.day");
+    print_day(b"queue-sums.day");
+    print_day(b"queue-verdicts.day");
+    print_day(b"queue-busy.day");
+    print_day(b"queue-edge.day");
     print_day(b"no-events.day");
     print_day(b"nothing.day");
     print_day(b"mixed-1.day");

@@ -12,10 +12,11 @@ use Rattle.rules.specs.Event.{Event, startCode, readCode, writeCode, commitCode
 use Rattle.rules.specs.Cause.{firstCause, earlyCauses, sumCause, isReadOutside, isAddOutside, isCommitOutside, areOutside, isSumOutside}
 use Rattle.rules.specs.Clash.{firstClash}
 use Rattle.rules.specs.Ledger.{Ledger, ledgerOf}
-use Rattle.rules.specs.Step.{outcomeOf, start, read, write, add, commit, abort, act, step}
+use Rattle.rules.specs.Step.{outcomeOf, start, read, write, add, commit, act, step}
 use Rattle.causes.proofs.Grouped.{Accepted, event-summed}
 use Rattle.events.specs.Sums.{readSays, readLeaves, addSays, addLeaves}
 use Rattle.commits.specs.Settle.{unlessOutside}
+use Rattle.dispatch.specs.Turn.{turn}
 
 -- an answer and a table that a sum decides, beside stores that stay, are an outcome that it decides
 decided :
@@ -78,11 +79,12 @@ module _
       ∙ rw is
       (sym (decided (isAddOutside (s .table) (e .number) (e .account) (e .card)) _ (s .table) _ (s .base) (s .shadow)))
 
-  pub step-of-abort :
+  -- an enter, a judge or an abort makes no sum of which it is refused
+  pub step-of-turn :
       e .code ≢ startCode → e .code ≢ readCode → e .code ≢ writeCode → e .code ≢ commitCode → e .code ≢ addCode →
-      step s e ≡ abort s (e .number)
-  unfolding act areOutside
-  step-of-abort no-start no-read no-write no-commit no-add =
+      step s e ≡ turn s (e .code) (e .number)
+  unfolding act areOutside turn
+  step-of-turn no-start no-read no-write no-commit no-add =
       summed
       ∙ rw (
         ne-eqb (e .code) startCode no-start,

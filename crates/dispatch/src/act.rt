@@ -6,8 +6,8 @@ ghost use Rattle.rules.specs.Card.{StoresFit};
 ghost use Rattle.rules.specs.Sound.{Sound};
 ghost use Rattle.rules.specs.Cause.{firstCause, earlyCauses};
 ghost use Rattle.rules.specs.Step.{outcomeOf, step};
+use crate::turn::turn;
 use commits::commit::commit;
-use events::abort::abort;
 use events::add::add;
 use events::read::read;
 use events::start::start;
@@ -48,6 +48,5 @@ pub(crate) fn act(
     if code == event::ADD {
         return add(table, number, account, card);
     }
-    let count = abort(table, number);
-    Answer::Aborted(count)
+    turn(table, base, shadow, code, number)
 }

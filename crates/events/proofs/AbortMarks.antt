@@ -11,7 +11,8 @@ use lib.Dec.{eqb}
 use lib.ListN.{length}
 use Rattle.rules.specs.Range.{upFrom, count, fold}
 use Rattle.rules.specs.Table.{width, live, aborted, startedField, parentField, stateField, word, started, parentOf, stateOf, withState, actions}
-use Rattle.rules.specs.Step.{isAbortedBy, abortTable}
+use Rattle.rules.specs.Walk.{isAbortedBy}
+use Rattle.rules.specs.Step.{abortTable}
 use Rattle.rules.proofs.Laws.Ranges.{count-at-most, count-left-here, count-left-next, count-left-done, fold-left-next, fold-left-done}
 use Rattle.rules.proofs.Laws.Walking.{started-climbs, atOrBelow-agree}
 use Rattle.rules.proofs.Laws.Words.{withWord-length, word-other-row, word-off-field}

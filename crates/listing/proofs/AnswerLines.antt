@@ -8,7 +8,7 @@ use lib.Dec.{lit<}
 use lib.ListN.{length, drop, getD, List·getD-append}
 use lib.Seq.{getD-drop, drop-drop, drop-at}
 use Rattle.rules.specs.declared.Answer.{Answer}
-use Rattle.rules.specs.declared.Answer.the-variants.{Started, Read, ReadSum, Written, Added, Committed, Failed, Aborted, Refused}
+use Rattle.rules.specs.declared.Answer.the-variants.{Started, Read, ReadSum, Written, Added, Entered, Ready, JudgedFailed, Committed, Failed, Aborted, Refused}
 use Rattle.rules.specs.Answer.{said}
 use Rattle.rules.specs.Encoding.{answerLength, wordsOf, wordsOfAll}
 use Rattle.rules.proofs.Laws.AnswerWords.{words-length}
@@ -26,9 +26,12 @@ text-of-words (Read holder moves) = refl
 text-of-words Written = refl
 text-of-words (Committed t) = refl
 text-of-words (Failed t k) = refl
-text-of-words (Aborted n) = refl
+text-of-words (Aborted n left) = refl
 text-of-words Added = refl
 text-of-words (ReadSum holder moves x) = refl
+text-of-words Entered = refl
+text-of-words (Ready left) = refl
+text-of-words (JudgedFailed left) = refl
 
 -- an answer's words, where they are the ith four
 module _ (words rest : List ℕ) (i : ℕ) (a : Answer) (here : drop (answerLength * i) words ≡ wordsOf a ++ rest) where

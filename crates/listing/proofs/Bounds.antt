@@ -9,7 +9,7 @@ use mathlib.Core.List.{List, _∷_}
 use lib.Dec.{eqb, lit≤}
 use lib.ListN.{length, getD, length-append}
 use lib.IntN.{ℤ}
-use Rattle.rules.specs.Encoding.{mostEvents, answerLength, refusedKind, startedKind, readKind, writtenKind, committedKind, failedKind, abortedKind, addedKind, readSumKind}
+use Rattle.rules.specs.Encoding.{mostEvents, answerLength, refusedKind, startedKind, readKind, writtenKind, committedKind, failedKind, abortedKind, addedKind, readSumKind, enteredKind, readyKind}
 use Rattle.rules.proofs.Laws.Tests.{cond-holds}
 use Rattle.listing.specs.Listing.{spaced, spacedSum, endLine, refusedLine}
 use Rattle.listing.specs.Buffer.{wordOf, hasNoNumbers, hasTwoNumbers, numbersOf, saidSum, textOf, lineOf, linesOf, listingLength}
@@ -37,7 +37,10 @@ word-bound kind =
     (either Short (eqb kind committedKind) (lit≤ tt)
     (either Short (eqb kind failedKind) (lit≤ tt)
     (either Short (eqb kind abortedKind) (lit≤ tt)
-    (either Short (eqb kind addedKind) (lit≤ tt) (lit≤ tt))))))))
+    (either Short (eqb kind addedKind) (lit≤ tt)
+    (either Short (eqb kind readSumKind) (lit≤ tt)
+    (either Short (eqb kind enteredKind) (lit≤ tt)
+    (either Short (eqb kind readyKind) (lit≤ tt) (lit≤ tt)))))))))))
 
 -- two numbers of 20 digits, each with a space before it
 abbrev numbersLength : ℕ

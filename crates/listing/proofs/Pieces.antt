@@ -23,12 +23,12 @@ unfolding spaced
 spaced-two m n = rw append-nil
 
 module _ (kind first second : ℕ) where
-  -- written and added
+  -- written, added and entered
   pub no-numbers : hasNoNumbers kind ≡ true → spaced (numbersOf kind first second) ≡ []
   unfolding numbersOf spaced
   no-numbers none = rw none
 
-  -- read and failed
+  -- read, a commit's failed, and aborted
   pub two-numbers :
       hasNoNumbers kind ≡ false → hasTwoNumbers kind ≡ true →
       spaced (numbersOf kind first second) ≡ (space ∷ decimal first) ++ (space ∷ decimal second)

@@ -7,11 +7,11 @@ use mathlib.Core.List.{List, [], _∷_, _++_}
 use lib.Dec.{eqb}
 use lib.ListN.{length, take, drop, getD}
 use lib.IntN.{ℤ}
-use Rattle.rules.specs.declared.Answer.the-variants.{Started, Read, ReadSum, Written, Added, Committed, Failed, Aborted, Refused}
+use Rattle.rules.specs.declared.Answer.the-variants.{Started, Read, ReadSum, Written, Added, Entered, Ready, JudgedFailed, Committed, Failed, Aborted, Refused}
 use Rattle.rules.specs.Amount.{amountOf}
 use Rattle.rules.specs.Table.{started, counter}
 use Rattle.rules.specs.Answer.{said}
-use Rattle.rules.specs.Encoding.{mostEvents, answerLength, refusedKind, startedKind, readKind, writtenKind, committedKind, failedKind, abortedKind, addedKind, readSumKind}
+use Rattle.rules.specs.Encoding.{mostEvents, answerLength, refusedKind, startedKind, readKind, writtenKind, committedKind, failedKind, abortedKind, addedKind, readSumKind, enteredKind, readyKind}
 use Rattle.listing.specs.Listing.{space, lineFeed, decimal, spaced, spacedSum, endLine}
 
 -- RULES 11.4: the bytes of the buffer
@@ -38,17 +38,20 @@ wordOf kind =
     (cond (eqb kind writtenKind) (said Written .word)
     (cond (eqb kind committedKind) (said (Committed 0) .word)
     (cond (eqb kind failedKind) (said (Failed 0 0) .word)
-    (cond (eqb kind abortedKind) (said (Aborted 0) .word)
+    (cond (eqb kind abortedKind) (said (Aborted 0 0) .word)
     (cond (eqb kind addedKind) (said Added .word)
-    (said (ReadSum 0 0 0) .word))))))))
+    (cond (eqb kind readSumKind) (said (ReadSum 0 0 0) .word)
+    (cond (eqb kind enteredKind) (said Entered .word)
+    (cond (eqb kind readyKind) (said (Ready 0) .word)
+    (said (JudgedFailed 0) .word)))))))))))
 
--- RULES 5: written and added have no numbers
+-- RULES 5: written, added and entered have no numbers
 abbrev pub hasNoNumbers : ℕ → Bool
-hasNoNumbers kind = eqb kind writtenKind || eqb kind addedKind
+hasNoNumbers kind = eqb kind writtenKind || eqb kind addedKind || eqb kind enteredKind
 
--- RULES 5: read, of either kind, and failed have two numbers
+-- RULES 5: read, of either kind, failed, of a commit, and aborted have two numbers
 abbrev pub hasTwoNumbers : ℕ → Bool
-hasTwoNumbers kind = eqb kind readKind || eqb kind failedKind || eqb kind readSumKind
+hasTwoNumbers kind = eqb kind readKind || eqb kind failedKind || eqb kind abortedKind || eqb kind readSumKind
 
 -- every other answer has one
 unfoldable pub numbersOf : ℕ → ℕ → ℕ → List ℕ

@@ -17,7 +17,7 @@ liveWord = 108 ∷ 105 ∷ 118 ∷ 101 ∷ []
 
 -- the word of a state; the other two are those of the answers
 unfoldable pub stateWord : ℕ → List ℕ
-stateWord state = cond (eqb state live) liveWord (cond (eqb state committed) (said (Committed 0) .word) (said (Aborted 0) .word))
+stateWord state = cond (eqb state live) liveWord (cond (eqb state committed) (said (Committed 0) .word) (said (Aborted 0 0) .word))
 
 -- each figure with a space before it
 unfoldable pub spacedFigures : List ℤ → List ℕ

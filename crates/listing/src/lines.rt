@@ -26,7 +26,10 @@ fn put_word(out: &mut [u8], at: usize, kind: u64) -> usize
         kind::FAILED => put_text(out, at, b"failed"),
         kind::ABORTED => put_text(out, at, b"aborted"),
         kind::ADDED => put_text(out, at, b"added"),
-        _ => put_text(out, at, b"read"),
+        kind::READ_SUM => put_text(out, at, b"read"),
+        kind::ENTERED => put_text(out, at, b"entered"),
+        kind::READY => put_text(out, at, b"ready"),
+        _ => put_text(out, at, b"failed"),
     }
 }
 
@@ -36,7 +39,10 @@ fn has_no_numbers(kind: u64) -> bool
     if kind == kind::WRITTEN {
         return true;
     }
-    kind == kind::ADDED
+    if kind == kind::ADDED {
+        return true;
+    }
+    kind == kind::ENTERED
 }
 
 fn has_two_numbers(kind: u64) -> bool
@@ -46,6 +52,9 @@ fn has_two_numbers(kind: u64) -> bool
         return true;
     }
     if kind == kind::FAILED {
+        return true;
+    }
+    if kind == kind::ABORTED {
         return true;
     }
     kind == kind::READ_SUM

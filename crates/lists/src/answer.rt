@@ -15,8 +15,11 @@ pub fn words(a: Answer) -> [u64; kind::ANSWER_LENGTH]
         Answer::Written => [kind::WRITTEN, 0, 0, 0],
         Answer::Committed(t) => [kind::COMMITTED, t, 0, 0],
         Answer::Failed(t, k) => [kind::FAILED, t, k, 0],
-        Answer::Aborted(n) => [kind::ABORTED, n, 0, 0],
+        Answer::Aborted(n, left) => [kind::ABORTED, n, left, 0],
         Answer::Added => [kind::ADDED, 0, 0, 0],
         Answer::ReadSum(holder, moves, sum) => [kind::READ_SUM, holder, moves, sum],
+        Answer::Entered => [kind::ENTERED, 0, 0, 0],
+        Answer::Ready(left) => [kind::READY, left, 0, 0],
+        Answer::JudgedFailed(left) => [kind::JUDGED_FAILED, left, 0, 0],
     }
 }

@@ -19,9 +19,15 @@ pub mod CommitLaid
 pub mod CommitChange
 pub mod CommitStale
 pub mod Passes
+pub mod Waiting
+pub mod WaitingSteps
+pub mod WaitingQueue
+pub mod WaitingHead
+pub mod WaitingRule
 pub mod JudgingRule
 pub mod Backward
 pub mod Collected
+pub mod LeaversKept
 pub mod RunKeeps
 pub mod Theorem
 pub mod WhoIsInR

@@ -2,11 +2,16 @@
 pub mod Tests
 pub mod Negated
 pub mod Ranges
+pub mod Lists
+pub mod Each
 pub mod Puts
 pub mod Words
 pub mod Fields
 pub mod Sets
 pub mod RowPass
+pub mod Queue
+pub mod QueueLoops
+pub mod Distinct
 pub mod Cards
 pub mod Bytes
 pub mod CopiedPart

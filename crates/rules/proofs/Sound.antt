@@ -1,6 +1,7 @@
 -- Every event keeps every sound table sound: what a change must show, then event by event.
 pub mod Soundness
 pub mod TableChanges
+pub mod QueueChanges
 pub mod Starting
 pub mod Reading
 pub mod Writing
@@ -8,4 +9,6 @@ pub mod Adding
 pub mod Committing
 pub mod Judging
 pub mod Aborting
+pub mod Leaving
+pub mod Waiting
 pub mod Kept

@@ -1,5 +1,8 @@
 -- The two stores: what events leave as it was, and what looks and reads hand back.
 pub mod Copies
+pub mod Leaves
+pub mod Committed
+pub mod Leavers
 pub mod Untouched
 pub mod Looking
 pub mod ReadAnswers

@@ -4,7 +4,7 @@ pub mod Brought
 pub mod Levels
 pub mod Carried
 pub mod Quiet
-pub mod QuietEvents
+pub mod CalmEvents
 pub mod Adding
 pub mod Starting
 pub mod CommitSums

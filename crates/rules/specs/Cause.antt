@@ -10,7 +10,8 @@ use Rattle.rules.specs.Amount.{isAmount, isAddable, amountIn, baseAmount
 use Rattle.rules.specs.Range.{any}
 use Rattle.rules.specs.Table.{mostActions, started, parentOf, hasWritten, pendingSum, ownAdds, isLive, hasLiveChild}
 use Rattle.rules.specs.Sound.{sound}
-use Rattle.rules.specs.Event.{Event, startCode, addCode, isStart, isRead, isWrite, isCommit, isAdd}
+use Rattle.rules.specs.Queue.{theQueue, queueLength, isQueued, isQueuedReady}
+use Rattle.rules.specs.Event.{Event, startCode, judgeCode, isStart, isRead, isWrite, isCommit, isAbort, isAdd, isEnter, isJudge}
 use Rattle.rules.specs.Nearest.{readSum}
 use Rattle.rules.specs.declared.Found.{Found}
 use Rattle.rules.specs.declared.Found.the-variants.{Nothing, At}
@@ -41,7 +42,7 @@ abbrev pub codeCause : ℕ
 codeCause = 3
 
 abbrev pub isCodeUnknown : ℕ → Bool
-isCodeUnknown code = not (leb startCode code && leb code addCode)
+isCodeUnknown code = not (leb startCode code && leb code judgeCode)
 
 abbrev pub numberCause : ℕ
 numberCause = 4
@@ -94,6 +95,25 @@ childLiveCause = 9
 
 abbrev pub isChildLive : List ℕ → Bool → ℕ → Bool
 isChildLive w used n = used && hasLiveChild w n
+
+abbrev pub queuedCause : ℕ
+queuedCause = 16
+
+abbrev pub isWaiting : List ℕ → Bool → ℕ → Bool
+isWaiting w used n = used && isQueued w theQueue n
+
+abbrev pub judgeCause : ℕ
+judgeCause = 17
+
+-- the action isn't queued, or it is ready
+abbrev pub isJudgeVain : List ℕ → Bool → ℕ → Bool
+isJudgeVain w used n = used && (not (isQueued w theQueue n) || isQueuedReady w theQueue n)
+
+abbrev pub queueCause : ℕ
+queueCause = 18
+
+abbrev pub isOvertaking : List ℕ → Bool → Bool
+isOvertaking w used = used && not (eqb (queueLength w theQueue) 0)
 
 abbrev pub sumCause : ℕ
 sumCause = 15
@@ -157,7 +177,10 @@ earlyCauses w e =
     ∷ record { number = cardLengthCause; applies = isCardLengthWrong (isWrite e || isAdd e) (e .card) }
     ∷ record { number = kindCause; applies = isKindWrong e }
     ∷ record { number = amountCause; applies = isAmountTooLarge (isAdd e) (e .card) }
-    ∷ record { number = childLiveCause; applies = isChildLive w (isRead e || isWrite e || isCommit e || isAdd e) (e .number) }
+    ∷ record { number = childLiveCause; applies = isChildLive w (isRead e || isWrite e || isCommit e || isAdd e || isEnter e) (e .number) }
+    ∷ record { number = queuedCause; applies = isWaiting w (not (isJudge e || isAbort e)) (e .number) }
+    ∷ record { number = judgeCause; applies = isJudgeVain w (isJudge e) (e .number) }
+    ∷ record { number = queueCause; applies = isOvertaking w (isCommit e) }
     ∷ []
 
 -- the last

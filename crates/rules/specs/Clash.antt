@@ -1,6 +1,6 @@
 -- RULES 4.2 and 4.3: clashes at a commit; document 01's term. Assumes nothing.
 use Prim.Native.Nat.{ℕ}
-use mathlib.Core.Bool.{Bool, cond, _&&_, _||_}
+use mathlib.Core.Bool.{Bool, true, false, cond, _&&_, _||_}
 use mathlib.Core.List.{List, [], _∷_, _++_}
 use lib.Dec.{ltb, leb, eqb}
 use Rattle.rules.specs.declared.Found.{Found}
@@ -48,3 +48,8 @@ least w (c ∷ cs) = earlier (endTime w (c .holder)) (c .account) (least w cs)
 -- RULES 4.3: the first clash of action n, which its commit answers
 unfoldable pub firstClash : List ℕ → ℕ → Found
 firstClash w n = least w (clashes w n)
+
+-- there is none
+abbrev pub isClear : Found → Bool
+isClear Nothing = true
+isClear (At t k) = false

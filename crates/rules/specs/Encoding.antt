@@ -3,7 +3,7 @@ use Prim.Native.Nat.{ℕ, zero, suc, _+_, _*_, _/_}
 use mathlib.Core.List.{List, [], _∷_, _++_}
 use lib.ListN.{length, take, drop, getD}
 use Rattle.rules.specs.declared.Answer.{Answer}
-use Rattle.rules.specs.declared.Answer.the-variants.{Started, Read, ReadSum, Written, Added, Committed, Failed, Aborted, Refused}
+use Rattle.rules.specs.declared.Answer.the-variants.{Started, Read, ReadSum, Written, Added, Entered, Ready, JudgedFailed, Committed, Failed, Aborted, Refused}
 use Rattle.rules.specs.Card.{cardLength}
 use Rattle.rules.specs.Event.{Event}
 
@@ -63,6 +63,15 @@ addedKind = 7
 abbrev pub readSumKind : ℕ
 readSumKind = 8
 
+abbrev pub enteredKind : ℕ
+enteredKind = 9
+
+abbrev pub readyKind : ℕ
+readyKind = 10
+
+abbrev pub judgedFailedKind : ℕ
+judgedFailedKind = 11
+
 abbrev pub wordsOf : Answer → List ℕ
 wordsOf (Refused c) = refusedKind ∷ c ∷ 0 ∷ 0 ∷ []
 wordsOf (Started n) = startedKind ∷ n ∷ 0 ∷ 0 ∷ []
@@ -70,9 +79,12 @@ wordsOf (Read holder moves) = readKind ∷ holder ∷ moves ∷ 0 ∷ []
 wordsOf Written = writtenKind ∷ 0 ∷ 0 ∷ 0 ∷ []
 wordsOf (Committed t) = committedKind ∷ t ∷ 0 ∷ 0 ∷ []
 wordsOf (Failed t k) = failedKind ∷ t ∷ k ∷ 0 ∷ []
-wordsOf (Aborted n) = abortedKind ∷ n ∷ 0 ∷ 0 ∷ []
+wordsOf (Aborted n left) = abortedKind ∷ n ∷ left ∷ 0 ∷ []
 wordsOf Added = addedKind ∷ 0 ∷ 0 ∷ 0 ∷ []
 wordsOf (ReadSum holder moves x) = readSumKind ∷ holder ∷ moves ∷ x ∷ []
+wordsOf Entered = enteredKind ∷ 0 ∷ 0 ∷ 0 ∷ []
+wordsOf (Ready left) = readyKind ∷ left ∷ 0 ∷ 0 ∷ []
+wordsOf (JudgedFailed left) = judgedFailedKind ∷ left ∷ 0 ∷ 0 ∷ []
 
 unfoldable pub wordsOfAll : List Answer → List ℕ
 wordsOfAll [] = []

@@ -33,6 +33,12 @@ abortCode = 5
 abbrev pub addCode : ℕ
 addCode = 6
 
+abbrev pub enterCode : ℕ
+enterCode = 7
+
+abbrev pub judgeCode : ℕ
+judgeCode = 8
+
 abbrev pub isStart : Event → Bool
 isStart e = eqb (e .code) startCode
 
@@ -45,8 +51,17 @@ isWrite e = eqb (e .code) writeCode
 abbrev pub isCommit : Event → Bool
 isCommit e = eqb (e .code) commitCode
 
+abbrev pub isAbort : Event → Bool
+isAbort e = eqb (e .code) abortCode
+
 abbrev pub isAdd : Event → Bool
 isAdd e = eqb (e .code) addCode
+
+abbrev pub isEnter : Event → Bool
+isEnter e = eqb (e .code) enterCode
+
+abbrev pub isJudge : Event → Bool
+isJudge e = eqb (e .code) judgeCode
 
 -- the events by name, with nothing in the parts that they have no use for
 abbrev pub startUnder : ℕ → Event
@@ -66,3 +81,9 @@ abortOf n = eventOf abortCode n 0 []
 
 abbrev pub addBy : ℕ → ℕ → List ℕ → Event
 addBy n k c = eventOf addCode n k c
+
+abbrev pub enterOf : ℕ → Event
+enterOf n = eventOf enterCode n 0 []
+
+abbrev pub judgeOf : ℕ → Event
+judgeOf n = eventOf judgeCode n 0 []

@@ -5,6 +5,7 @@ pub mod Amount
 pub mod Table
 pub mod Ledger
 pub mod Walk
+pub mod Queue
 pub mod Sound
 pub mod Event
 pub mod Answer
@@ -12,6 +13,7 @@ pub mod Encoding
 pub mod Nearest
 pub mod Clash
 pub mod Search
+pub mod Verdict
 pub mod Cause
 pub mod Look
 pub mod Step

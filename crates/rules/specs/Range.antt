@@ -1,4 +1,5 @@
--- Runs of numbers, and what is asked of them or done for each: what the rules say of every account or every action.
+-- Runs of numbers, and what is asked of the members of a list or done for each: what the rules say of every account, of every
+-- action, or of every entry of a queue.
 -- Assumes nothing.
 use Prim.Native.Nat.{ℕ, zero, suc}
 use mathlib.Core.Bool.{Bool, true, false, cond, _&&_, _||_}
@@ -10,22 +11,22 @@ upFrom a zero = []
 upFrom a (suc n) = a ∷ upFrom (suc a) n
 
 -- f holds of one of them at least
-unfoldable pub any : (ℕ → Bool) → List ℕ → Bool
+unfoldable pub any : {A : Type 0} → (A → Bool) → List A → Bool
 any f [] = false
 any f (x ∷ xs) = f x || any f xs
 
 -- f holds of each of them
-unfoldable pub all : (ℕ → Bool) → List ℕ → Bool
+unfoldable pub all : {A : Type 0} → (A → Bool) → List A → Bool
 all f [] = true
 all f (x ∷ xs) = f x && all f xs
 
 -- of how many of them f holds
-unfoldable pub count : (ℕ → Bool) → List ℕ → ℕ
+unfoldable pub count : {A : Type 0} → (A → Bool) → List A → ℕ
 count f [] = zero
 count f (x ∷ xs) = let rest = count f xs in cond (f x) (suc rest) rest
 
 -- those of which f holds, in their order
-unfoldable pub filter : (ℕ → Bool) → List ℕ → List ℕ
+unfoldable pub filter : {A : Type 0} → (A → Bool) → List A → List A
 filter f [] = []
 filter f (x ∷ xs) = let rest = filter f xs in cond (f x) (x ∷ rest) rest
 

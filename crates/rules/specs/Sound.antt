@@ -4,12 +4,13 @@ use Prim.Native.Nat.{ℕ, _-_, _≤_, _<_}
 use mathlib.Core.Path.{_≡_}
 use mathlib.Core.Logic.{_⊎_}
 use mathlib.Core.Bool.{Bool, true, false, not, _&&_, _||_}
-use mathlib.Core.List.{List}
+use mathlib.Core.List.{List, [], _∷_, map}
 use lib.Dec.{leb, ltb, eqb}
 use lib.ListN.{length}
-use Rattle.rules.specs.Range.{upFrom, all, count}
+use Rattle.rules.specs.Range.{upFrom, any, all, count}
 use Rattle.rules.specs.Card.{accountCount, accounts, IsCharge, chargeAccounts}
-use Rattle.rules.specs.Table.{tableLength, mostActions, live, committed, aborted, started, counter, parentOf, stateOf, endTime, hasRead, readTime, hasWritten, pendingWord, isLive, isCommitted, hasEnd, actions}
+use Rattle.rules.specs.Table.{tableLength, mostActions, live, committed, aborted, started, counter, parentOf, stateOf, endTime, hasRead, readTime, hasWritten, pendingWord, isLive, isCommitted, hasEnd, actions, hasLiveChild}
+use Rattle.rules.specs.Queue.{theQueue, queueLength, queue, isQueued}
 
 -- 7.4: the state's word is that of a state
 abbrev pub hasState : List ℕ → ℕ → Bool
@@ -54,19 +55,50 @@ isSoundAction w n =
     && hasEndAlone w n
     && hasPendingWritten w n
 
--- 7.1 the length, 7.2 the last start, 7.3 the counter, and those clauses of each action
+-- 7.12: n is the number of a live action without a live child
+unfoldable pub mayWait : List ℕ → ℕ → Bool
+mayWait w n = leb 1 n && leb n (started w) && isLive w n && not (hasLiveChild w n)
+
+-- 7.13: each of these numbers stands here once
+unfoldable pub areDistinct : List ℕ → Bool
+areDistinct [] = true
+areDistinct (n ∷ ns) = not (any (eqb n) ns) && areDistinct ns
+
+-- the numbers of those who wait in queue h
+unfoldable pub queueNumbers : List ℕ → ℕ → List ℕ
+queueNumbers w h = map (λ e. e .number) (queue w h)
+
+-- 7.11 to 7.13
+unfoldable pub isSoundQueue : List ℕ → ℕ → Bool
+isSoundQueue w h =
+    leb (queueLength w h) mostActions && all (mayWait w) (queueNumbers w h) && areDistinct (queueNumbers w h)
+
+-- 7.1 the length, 7.2 the last start, 7.3 the counter, and those clauses of each action and of the queue
 unfoldable pub sound : List ℕ → Bool
 sound w =
     eqb (length w) tableLength
     && leb (started w) mostActions
     && leb (counter w) (count (isCommitted w) (actions w))
     && all (isSoundAction w) (actions w)
+    && isSoundQueue w theQueue
 
 -- n is the number of a started action
 abbrev pub IsStarted : List ℕ → ℕ → Type 0
 IsStarted w n = (1 ≤ n) × (n ≤ started w)
 
--- the same clauses as facts
+-- The same clauses as facts: of an action that waits in a queue,
+pub record MayWait (w : List ℕ) (n : ℕ) : Type 0 where
+  pub begun : IsStarted w n
+  pub alive : isLive w n ≡ true
+  pub childless : hasLiveChild w n ≡ false
+
+-- of queue h,
+pub record SoundQueue (w : List ℕ) (h : ℕ) : Type 0 where
+  pub short : queueLength w h ≤ mostActions
+  pub waits : (n : ℕ) → isQueued w h n ≡ true → MayWait w n
+  pub once : areDistinct (queueNumbers w h) ≡ true
+
+-- and of the table
 pub record Sound (w : List ℕ) : Type 0 where
   pub long : length w ≡ tableLength
   pub few : started w ≤ mostActions
@@ -81,3 +113,4 @@ pub record Sound (w : List ℕ) : Type 0 where
       (n m : ℕ) → IsStarted w n → IsStarted w m → hasEnd w n ≡ true → hasEnd w m ≡ true →
       parentOf w m ≡ parentOf w n → endTime w m ≡ endTime w n → m ≡ n
   pub pendings : (n k : ℕ) → IsStarted w n → IsCharge k → hasWritten w n k ≡ false → pendingWord w n k ≡ 0
+  pub line : SoundQueue w theQueue

@@ -1,23 +1,25 @@
 -- RULES 2 and 4: what each event answers and leaves; an event of any kind is `step`. Assumes nothing.
-use Prim.Native.Nat.{ℕ, _+_, min}
-use mathlib.Core.Bool.{Bool, cond, not, _&&_, _||_}
-use mathlib.Core.List.{List}
+use Prim.Native.Nat.{ℕ, zero, suc, _+_, min}
+use mathlib.Core.Bool.{Bool, true, false, cond, not, _&&_, _||_}
+use mathlib.Core.List.{List, [], _∷_, _++_}
 use lib.Dec.{eqb}
 use lib.IntN.{ℤ, _+ℤ_}
 use Rattle.rules.specs.declared.Answer.{Answer}
-use Rattle.rules.specs.declared.Answer.the-variants.{Started, Read, ReadSum, Written, Added, Committed, Failed, Aborted, Refused}
+use Rattle.rules.specs.declared.Answer.the-variants.{Started, Read, ReadSum, Written, Added, Entered, Ready, JudgedFailed, Committed, Failed, Aborted, Refused}
 use Rattle.rules.specs.Ledger.{Ledger, ledgerOf, withTable}
 use Rattle.rules.specs.Range.{count, fold}
 use Rattle.rules.specs.Card.{accounts, isCharge, basePlace, shadowPlace, cardAt, withCard}
 use Rattle.rules.specs.Amount.{amountWord, amountIn, withAmount, baseAmount}
-use Rattle.rules.specs.Table.{live, committed, aborted, started, withStarted, counter, withCounter, parentOf, withParent, withState, withEndTime, readEntry, withRead, hasRead, writeEntry, withWrite, entered, hasWritten, hasWrites, hasCard, pendingWord, withPending, pendingSum, ownAdds, withOwnAdds, withoutAdds, withSets, isLive, actions}
-use Rattle.rules.specs.Walk.{isAtOrBelow}
-use Rattle.rules.specs.Event.{Event, isStart, isRead, isWrite, isCommit, isAdd}
-use Rattle.rules.specs.Cause.{causeOf}
+use Rattle.rules.specs.Table.{live, committed, aborted, started, withStarted, counter, withCounter, parentOf, withParent, withState, withEndTime, readEntry, withRead, hasRead, writeEntry, withWrite, entered, hasWritten, hasWrites, hasCard, pendingWord, withPending, pendingSum, ownAdds, withOwnAdds, withoutAdds, withSets, actions}
+use Rattle.rules.specs.Walk.{isAbortedBy}
+use Rattle.rules.specs.Queue.{theQueue, queueLength, headOf, isHeadReady, isQueuedFailed, withTail, withReady, withoutBelow}
+use Rattle.rules.specs.Event.{Event, isStart, isRead, isWrite, isCommit, isAbort, isAdd, isEnter, isJudge}
+use Rattle.rules.specs.Cause.{isCommitOutside, causeOf}
 use Rattle.rules.specs.Nearest.{version, readSum}
 use Rattle.rules.specs.declared.Found.{Found}
 use Rattle.rules.specs.declared.Found.the-variants.{Nothing, At}
 use Rattle.rules.specs.Clash.{firstClash}
+use Rattle.rules.specs.Verdict.{verdictOf}
 
 -- what an event answers and leaves
 pub record Outcome : Type 0 where
@@ -152,28 +154,118 @@ committedUnder s n p =
       shadow = cond (eqb p 0) (s .shadow) (joinedShadow s n p);
     }
 
+-- the ledger after n fails
+abbrev pub failedLedger : Ledger → ℕ → Ledger
+failedLedger s n = withTable s (withState (s .table) n aborted)
+
 -- by whether a clash was found
 unfoldable pub judged : Ledger → ℕ → Found → Outcome
 judged s n Nothing =
     record { answer = Committed (commitTime (s .table) n); after = committedUnder s n (parentOf (s .table) n) }
-judged s n (At t k) = record { answer = Failed t k; after = withTable s (withState (s .table) n aborted) }
+judged s n (At t k) = record { answer = Failed t k; after = failedLedger s n }
 
 unfoldable pub commit : Ledger → ℕ → Outcome
 commit s n = judged s n (firstClash (s .table) n)
 
--- ---- RULES 2.6: abort
+-- ---- RULES 2.14: the head is tried
 
-abbrev pub isAbortedBy : List ℕ → ℕ → ℕ → Bool
-isAbortedBy w n m = isLive w m && isAtOrBelow w n m
+-- the ledger after those have been taken out of the queue whom an abort of n reaches
+abbrev pub takenOut : Ledger → ℕ → ℕ → Ledger
+takenOut s h n = withTable s (withoutBelow (s .table) h n)
+
+-- n, which has left the queue, is finished, by whether a sum of its commit is outside; and whether it has committed then, as a
+-- list
+unfoldable pub finished : Ledger → ℕ → Bool → Ledger
+finished s n false = committedUnder s n (parentOf (s .table) n)
+finished s n true = failedLedger s n
+
+abbrev pub committing : ℕ → Bool → List ℕ
+committing n false = n ∷ []
+committing n true = []
+
+-- the head of queue h, the ledger when it has been taken out, and whether a sum of its commit is outside there
+abbrev pub headIn : ℕ → Ledger → ℕ
+headIn h s = headOf (s .table) h
+
+abbrev pub headOut : ℕ → Ledger → Ledger
+headOut h s = takenOut s h (headIn h s)
+
+abbrev pub isHeadOutside : ℕ → Ledger → Bool
+isHeadOutside h s = isCommitOutside (headOut h s .table) (headOut h s .base) (headIn h s) Nothing
+
+-- the ledger when it has left
+abbrev pub headLeft : ℕ → Ledger → Ledger
+headLeft h s = finished (headOut h s) (headIn h s) (isHeadOutside h s)
+
+-- what those leave who leave queue h: the ledger, how many they were, and who of them has committed, in the order of leaving
+pub record Left : Type 0 where
+  pub after : Ledger
+  pub many : ℕ
+  pub commits : List ℕ
+
+-- nobody leaves
+abbrev pub nobodyLeft : Ledger → Left
+nobodyLeft s = record { after = s; many = 0; commits = [] }
+
+-- the head leaves, and the others after it
+abbrev pub headBefore : ℕ → Ledger → Left → Left
+headBefore h s rest =
+    record { after = rest .after; many = suc (rest .many); commits = committing (headIn h s) (isHeadOutside h s) ++ rest .commits }
+
+-- as long as the head is ready, which the Bool says of the present one, it leaves; the first number bounds how many do
+unfoldable pub leaveWhile : ℕ → Bool → ℕ → Ledger → Left
+leaveWhile zero b h s = nobodyLeft s
+leaveWhile (suc most) false h s = nobodyLeft s
+leaveWhile (suc most) true h s =
+    let now = headLeft h s in
+    headBefore h s (leaveWhile most (isHeadReady (now .table) h) h now)
+
+-- no more leave than there are
+unfoldable pub leave : ℕ → Ledger → Left
+leave h s = leaveWhile (queueLength (s .table) h) (isHeadReady (s .table) h) h s
+
+-- ---- RULES 2.11 and 2.12: enter and judge
+
+unfoldable pub enter : Ledger → ℕ → Outcome
+enter s n =
+    record { answer = Entered; after = withTable s (withTail (s .table) theQueue n (verdictOf (s .table) theQueue n)) }
+
+-- the ledger after n's verdict is revealed, by whether it is failed, and before the head is tried
+unfoldable pub revealed : Ledger → ℕ → Bool → Ledger
+revealed s n true = failedLedger (takenOut s theQueue n) n
+revealed s n false = withTable s (withReady (s .table) theQueue n)
+
+unfoldable pub judgeLeft : Ledger → ℕ → Left
+judgeLeft s n = leave theQueue (revealed s n (isQueuedFailed (s .table) theQueue n))
+
+abbrev pub judgeAnswer : Bool → ℕ → Answer
+judgeAnswer true left = JudgedFailed left
+judgeAnswer false left = Ready left
+
+unfoldable pub judge : Ledger → ℕ → Outcome
+judge s n =
+    record {
+      answer = judgeAnswer (isQueuedFailed (s .table) theQueue n) (judgeLeft s n .many);
+      after = judgeLeft s n .after;
+    }
+
+-- ---- RULES 2.6: abort
 
 unfoldable pub abortTable : List ℕ → ℕ → List ℕ
 abortTable w n = fold (λ m now. cond (isAbortedBy w n m) (withState now m aborted) now) (actions w) w
 
+-- the ledger after n and all live below it have gone, and before the head is tried
+unfoldable pub dropped : Ledger → ℕ → Ledger
+dropped s n = withTable s (abortTable (withoutBelow (s .table) theQueue n) n)
+
+unfoldable pub abortLeft : Ledger → ℕ → Left
+abortLeft s n = leave theQueue (dropped s n)
+
 unfoldable pub abort : Ledger → ℕ → Outcome
 abort s n =
     record {
-      answer = Aborted (count (isAbortedBy (s .table) n) (actions (s .table)));
-      after = withTable s (abortTable (s .table) n);
+      answer = Aborted (count (isAbortedBy (s .table) n) (actions (s .table))) (abortLeft s n .many);
+      after = abortLeft s n .after;
     }
 
 -- ---- RULES 2.8: one event
@@ -186,10 +278,25 @@ act s e =
     (cond (isWrite e) (write s (e .number) (e .account) (e .card))
     (cond (isCommit e) (commit s (e .number))
     (cond (isAdd e) (add s (e .number) (e .account) (e .card))
-    (abort s (e .number))))))
+    (cond (isEnter e) (enter s (e .number))
+    (cond (isJudge e) (judge s (e .number))
+    (abort s (e .number))))))))
 
 -- any event
 unfoldable pub step : Ledger → Event → Outcome
 step s e =
     let cause = causeOf (s .table) (s .base) (s .shadow) e in
     cond (eqb cause 0) (act s e) (record { answer = Refused cause; after = s })
+
+-- ---- RULES 6.1: who commits by leaving the queue at an event, in the order of leaving
+
+unfoldable pub actLeavers : Ledger → Event → List ℕ
+actLeavers s e =
+    cond (isJudge e) (judgeLeft s (e .number) .commits)
+    (cond (isAbort e) (abortLeft s (e .number) .commits)
+    [])
+
+unfoldable pub leaversAt : Ledger → Event → List ℕ
+leaversAt s e =
+    let leavers = actLeavers s e in
+    cond (eqb (causeOf (s .table) (s .base) (s .shadow) e) 0) leavers []

@@ -18,16 +18,20 @@ mostActions = 64
 abbrev pub IsAction : ℕ → Type 0
 IsAction n = (1 ≤ n) × (n ≤ mostActions)
 
+-- the words of an action, at the front of its row; behind them stand those of the queue's position (Queue.antt)
+abbrev pub actionWidth : ℕ
+actionWidth = 83
+
 -- the words of a row
 abbrev pub width : ℕ
-width = 83
+width = 86
 
 abbrev pub IsField : ℕ → Type 0
 IsField f = f < width
 
 -- the words of a table: the head's row and a row for each action
 abbrev pub tableLength : ℕ
-tableLength = 5395
+tableLength = 5590
 
 -- word f of row n
 unfoldable pub word : List ℕ → ℕ → ℕ → ℕ

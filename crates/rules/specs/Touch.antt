@@ -1,17 +1,17 @@
 -- RULES 2.7: the bytes of the two stores that an event may change; proofs/Stores/Untouched.antt shows that no other one
 -- does. Assumes nothing.
 use Prim.Native.Nat.{ℕ, _+_}
-use mathlib.Core.Bool.{Bool, true, false, not, cond, _&&_, _||_}
-use mathlib.Core.List.{List}
+use mathlib.Core.Bool.{Bool, not, cond, _&&_, _||_}
+use mathlib.Core.List.{List, [], _∷_}
 use lib.Dec.{leb, ltb, eqb}
 use Rattle.rules.specs.Range.{any}
 use Rattle.rules.specs.Card.{accounts, isCharge, cardLength, basePlace, shadowPlace}
 use Rattle.rules.specs.Amount.{amountLength}
 use Rattle.rules.specs.Table.{parentOf, hasWritten, hasCard}
 use Rattle.rules.specs.Event.{Event, isWrite, isCommit}
-use Rattle.rules.specs.declared.Found.{Found}
-use Rattle.rules.specs.declared.Found.the-variants.{Nothing, At}
-use Rattle.rules.specs.Clash.{firstClash}
+use Rattle.rules.specs.Clash.{isClear, firstClash}
+use Rattle.rules.specs.Ledger.{Ledger}
+use Rattle.rules.specs.Step.{leaversAt}
 
 -- byte i is one of so many from a place on
 abbrev pub isAmong : ℕ → ℕ → ℕ → Bool
@@ -33,21 +33,22 @@ isSettled w n i = any (λ k. hasWritten w n k && isAmong (settledLength k) (base
 unfoldable pub isCopied : List ℕ → ℕ → ℕ → ℕ → Bool
 isCopied w n p i = any (λ k. hasCard w n k && isAmong cardLength (shadowPlace p k) i) accounts
 
-abbrev pub isClear : Found → Bool
-isClear Nothing = true
-isClear (At t k) = false
-
 -- a commit that passes
 abbrev pub isCommitting : List ℕ → Event → Bool
 isCommitting w e = isCommit e && isClear (firstClash w (e .number))
 
--- of the table before the event, the event, and the byte's place: a topaction's commit changes the base store
-unfoldable pub mayChangeBase : List ℕ → Event → ℕ → Bool
-mayChangeBase w e i = isCommitting w e && eqb (parentOf w (e .number)) 0 && isSettled w (e .number) i
+-- who commits at an event, by it or by leaving the queue
+unfoldable pub committersAt : Ledger → Event → List ℕ
+committersAt s e = cond (isCommitting (s .table) e) (e .number ∷ []) (leaversAt s e)
+
+-- of the ledger before the event, the event, and the byte's place: a topaction's commit changes the base store
+unfoldable pub mayChangeBase : Ledger → Event → ℕ → Bool
+mayChangeBase s e i = any (λ n. eqb (parentOf (s .table) n) 0 && isSettled (s .table) n i) (committersAt s e)
+
+-- a subaction's commit copies over byte i of the shadow store
+abbrev pub isJoined : List ℕ → ℕ → ℕ → Bool
+isJoined w n i = not (eqb (parentOf w n) 0) && isCopied w n (parentOf w n) i
 
 -- .. and a write, or a subaction's commit, the shadow store
-unfoldable pub mayChangeShadow : List ℕ → Event → ℕ → Bool
-mayChangeShadow w e i =
-    let n = e .number in
-    let p = parentOf w n in
-    isPut e i || isCommitting w e && not (eqb p 0) && isCopied w n p i
+unfoldable pub mayChangeShadow : Ledger → Event → ℕ → Bool
+mayChangeShadow s e i = isPut e i || any (λ n. isJoined (s .table) n i) (committersAt s e)

@@ -30,3 +30,9 @@ pub const KIND: u64 = 13;
 pub const AMOUNT: u64 = 14;
 
 pub const SUM: u64 = 15;
+
+pub const QUEUED: u64 = 16;
+
+pub const JUDGE: u64 = 17;
+
+pub const QUEUE: u64 = 18;

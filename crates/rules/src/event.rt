@@ -11,6 +11,10 @@ pub const ABORT: u64 = 5;
 
 pub const ADD: u64 = 6;
 
+pub const ENTER: u64 = 7;
+
+pub const JUDGE: u64 = 8;
+
 pub const EVENT_LENGTH: usize = 35;
 
 pub const NUMBER_AT: usize = 1;

@@ -17,4 +17,10 @@ pub const ADDED: u64 = 7;
 
 pub const READ_SUM: u64 = 8;
 
+pub const ENTERED: u64 = 9;
+
+pub const READY: u64 = 10;
+
+pub const JUDGED_FAILED: u64 = 11;
+
 pub const ANSWER_LENGTH: usize = 4;

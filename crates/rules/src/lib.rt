@@ -6,6 +6,7 @@ pub mod cause;
 pub mod day;
 pub mod event;
 pub mod kind;
+pub mod queue;
 pub mod report;
 pub mod store;
 pub mod table;
@@ -21,12 +22,16 @@ pub enum Answer {
     ReadSum(u64, u64, u64),
     Written,
     Added,
+    Entered,
+    // a judge's: how many then left the queue, where the verdict was good and where it was failed
+    Ready(u64),
+    JudgedFailed(u64),
     // the end time, 0 where nothing was written
     Committed(u64),
     // the end time and the account of the first clash
     Failed(u64, u64),
-    // how many actions became aborted
-    Aborted(u64),
+    // how many actions became aborted, and how many then left the queue
+    Aborted(u64, u64),
     // the number of the cause
     Refused(u64),
 }

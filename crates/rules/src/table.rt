@@ -1,9 +1,9 @@
 // RULES 1.7: the table's words. Row 0 is the head, row n is action n.
 pub const MOST_ACTIONS: u64 = 64;
 
-pub const WIDTH: u64 = 83;
+pub const WIDTH: u64 = 86;
 
-pub const TABLE_LENGTH: usize = 5395;
+pub const TABLE_LENGTH: usize = 5590;
 
 // The number of the store, where an action's could stand, and the head's row.
 pub const STORE: u64 = 0;

@@ -1,13 +1,15 @@
-// The test for a sound table: the clauses on the whole of it, and those of each action.
+// The test for a sound table: the clauses on the whole of it, those of each action, and those on the queue.
 ghost use mathlib.Core.Path.{_≡_};
 ghost use Rattle.rules.specs.Range.{all, count};
 ghost use Rattle.rules.specs.Table.{isCommitted, actions};
 ghost use Rattle.rules.specs.Sound.{isSoundAction, sound};
 ghost use Rattle.rows.specs.Row.{Scannable};
 use crate::action::is_sound_action;
+use crate::queue::is_sound_queue;
 use rows::fields::counter;
 use rows::fields::is_committed;
 use rows::fields::last_start;
+use rules::queue::THE_QUEUE;
 use rules::table::MOST_ACTIONS;
 use rules::table::TABLE_LENGTH;
 
@@ -50,5 +52,8 @@ pub fn is_sound(table: &[u64]) -> bool
     if count_committed(table) < counter(table) {
         return false;
     }
-    all_sound(table)
+    if !all_sound(table) {
+        return false;
+    }
+    is_sound_queue(table, THE_QUEUE)
 }

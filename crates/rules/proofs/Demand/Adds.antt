@@ -9,13 +9,14 @@ use lib.IntN.{_+ℤ_}
 use Rattle.rules.specs.Card.{accountCount, IsCharge}
 use Rattle.rules.specs.Amount.{amountOf, isAmount, amountIn}
 use Rattle.rules.specs.Table.{word, writeField, writeEntry, pendingField, pendingWord, pendingSum}
+use Rattle.rules.specs.Queue.{theQueue, queueLengthField}
 use Rattle.rules.specs.Ledger.{Ledger}
 use Rattle.rules.specs.Step.{addTable, add}
 use Rattle.rules.specs.Serial.Effect.{adds, lay}
 use Rattle.rules.proofs.Laws.Amounts.{amount-read-back}
 use Rattle.rules.proofs.Laws.Permitted.{Touchable}
 use Rattle.rules.proofs.Sound.TableChanges.{TableChange}
-use Rattle.rules.proofs.Sound.Adding.{firstOwnAdds, add-keeps-field, add-keeps-row, add-entry, add-pending, add-change}
+use Rattle.rules.proofs.Sound.Adding.{firstOwnAdds, add-keeps-field, add-keeps-behind, add-keeps-row, add-entry, add-pending, add-change}
 use Rattle.rules.proofs.Demand.Abstraction.{effectOf}
 use Rattle.rules.proofs.Demand.Proper.{Proper}
 use Rattle.rules.proofs.Demand.AbstractionLaws.{effect-sum, sum-laid}
@@ -41,7 +42,7 @@ module _
   field-kept = add-keeps-field (s .table) (proper .sound) n k own alive charge (amountIn card)
 
   row-kept : (m : ℕ) → m ≢ n → RowKept (s .table) table′ m
-  row-kept m other g h = add-keeps-row (s .table) (proper .sound) n k own alive charge (amountIn card) m g h other
+  row-kept m other g h = add-keeps-row (s .table) (proper .sound) n k own alive charge (amountIn card) m g (omega arith) other
 
   -- ---- effects
 
@@ -72,6 +73,11 @@ module _
         change = table-change;
         fields = λ m g h. field-kept m g (omega arith) (λ z. omega arith) (λ z. omega arith);
         rows = row-kept;
+        sameLine =
+            record {
+              sameLength = field-kept 0 (queueLengthField theQueue) (omega arith) (λ z. omega arith) (λ z. omega arith);
+              sameEntries = λ i g _. add-keeps-behind (s .table) (proper .sound) n k own alive charge (amountIn card) i g;
+            };
         laid = effect-laid;
         elsewhere = λ X j begun other.
             effect-kept s added X j (λ h. entry-elsewhere X j h other) (λ h. sum-elsewhere X j h other) (λ _. refl);

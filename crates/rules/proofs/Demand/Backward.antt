@@ -1,16 +1,47 @@
 -- The rule by which commits are judged, RULES 4.2: backwards, by what has committed since the reads. Assumes nothing.
-use mathlib.Core.Path.{refl}
+use mathlib.Core.Path.{_≡_, refl}
+use Rattle.rules.specs.Range.{upFrom}
+use Rattle.rules.specs.Queue.{theQueue, queueLength, queue}
+use Rattle.rules.specs.Ledger.{Ledger}
 use Rattle.rules.proofs.Serial.Stale.{stale-rule}
 use Rattle.rules.proofs.Demand.Abstraction.{abstraction, Stale}
+use Rattle.rules.proofs.Demand.WaitingRule.{WaitingRule}
 use Rattle.rules.proofs.Demand.JudgingRule.{JudgingRule}
 use Rattle.rules.proofs.Demand.Starts.{start-old}
 use Rattle.rules.proofs.Demand.Reads.{read-old}
 use Rattle.rules.proofs.Demand.Entering.{entering-old}
 use Rattle.rules.proofs.Demand.Writes.{write-enters}
 use Rattle.rules.proofs.Demand.Adds.{add-enters}
-use Rattle.rules.proofs.Demand.Drops.{abort-old, fail-old}
+use Rattle.rules.proofs.Demand.Drops.{abort-old, queue-old, fail-old}
 use Rattle.rules.proofs.Demand.Passes.{no-clash-passes}
 use Rattle.rules.proofs.Demand.CommitStale.{stale-at-commit}
+use Rattle.rules.proofs.Demand.Waiting.{Waits}
+use Rattle.rules.proofs.Demand.WaitingSteps.{Waiting, waits-start, waits-read, waits-entering, waits-fail, waits-abort}
+use Rattle.rules.proofs.Demand.WaitingQueue.{waits-enter, waits-ready, waits-out}
+use Rattle.rules.proofs.Demand.WaitingHead.{head-passes, waits-head-committed}
+
+-- nothing is asked of an empty queue
+none-waits : (s : Ledger) → queueLength (s .table) theQueue ≡ 0 → Waiting s
+unfolding queue upFrom Waits
+none-waits s empty = rw empty tt
+
+backward-waits : WaitingRule (stale-rule abstraction Stale)
+backward-waits =
+    record {
+      Waiting = Waiting;
+      none-waits = none-waits;
+      waits-start = waits-start;
+      waits-read = waits-read;
+      waits-write = λ s proper n k p below card whole. waits-entering s proper n k p _ _ (write-enters s proper n k p below card whole);
+      waits-add = λ s proper n k p charge card fits. waits-entering s proper n k p _ _ (add-enters s proper n k p charge card fits);
+      waits-fail = waits-fail;
+      waits-abort = waits-abort;
+      waits-enter = waits-enter;
+      waits-ready = waits-ready;
+      waits-out = waits-out;
+      head-passes = head-passes;
+      waits-head-committed = waits-head-committed;
+    }
 
 pub backward : JudgingRule
 backward =
@@ -22,6 +53,8 @@ backward =
       at-write = λ s proper n k p below card whole. entering-old proper p (write-enters s proper n k p below card whole);
       at-add = λ s proper n k p charge card fits. entering-old proper p (add-enters s proper n k p charge card fits);
       at-abort = abort-old;
+      at-queue = queue-old;
       at-failed-commit = fail-old;
       at-commit = λ s proper n j. stale-at-commit proper j refl;
+      waits = backward-waits;
     }

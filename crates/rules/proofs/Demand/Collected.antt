@@ -52,6 +52,7 @@ pub record Kept (J : JudgingRule) (got ground opening : ℕ → AccountValue) (s
   pub parents : KnowsParents (abstraction s) (c .parent)
   pub whole : (n : ℕ) → Whole (c .block n)
   pub top : OnlyChildren (c .block 0)
+  pub waiting : J .waits .Waiting s
 
 -- a parent that is known stays so while nobody is new and live actions keep their parents
 same-parents :
@@ -66,16 +67,18 @@ same-parents nobody-new kept known X l′ =
 -- J, got, ground and opening as above, at place i, from a state and what is collected before it to the state after
 module _
     (J : JudgingRule) (got ground opening : ℕ → AccountValue) {s : Ledger} {c : Known} (kept : Kept J got ground opening s c) (i : ℕ) where
-  -- an abort or a failed commit: no block changes
+  -- some are dropped, or the queue changes: no block does
   pub drop-kept :
-      (s′ : Ledger) → Proper s′ → Drop (abstraction s) (abstraction s′) → J .rule .CalmFacts s s′ → Kept J got ground opening s′ c
-  drop-kept s′ proper′ drop facts =
+      (s′ : Ledger) → Proper s′ → Drop (abstraction s) (abstraction s′) → J .rule .CalmFacts s s′ → J .waits .Waiting s′ →
+      Kept J got ground opening s′ c
+  drop-kept s′ proper′ drop facts waiting′ =
       record {
         proper = proper′;
         holds = grounded-drop (J .rule) accountCharges got ground opening charges-seen s s′ (kept .holds) drop facts;
         parents = same-parents (drop .nobody-new) (drop .still .parent-kept) (kept .parents);
         whole = kept .whole;
         top = kept .top;
+        waiting = waiting′;
       }
 
   -- a start: the new action's block is empty
@@ -112,6 +115,7 @@ module _
           parents = new-parents;
           whole = put-holds (c .block) new empty (λ _. Whole) tt (λ m _. kept .whole m);
           top = rw (put-elsewhere (c .block) new empty 0 (λ z. omega arith)) (kept .top);
+          waiting = J .waits .waits-start s (kept .proper) p permitted (kept .waiting);
         }
 
   -- a step of the action n itself: its block grows by one, the store's stays
@@ -148,14 +152,15 @@ module _
           parents = same-parents (reads .nobody-new) (reads .still .parent-kept) (kept .parents);
           whole = own-whole n own (Block.read (c .block n) i k) (kept .whole n);
           top = own-top n own (Block.read (c .block n) i k);
+          waiting = J .waits .waits-read s (kept .proper) n k permitted (kept .waiting);
         }
 
     -- a write or an add
     pub enter-kept :
-        {s′ : Ledger} {f : Effect} → Entering s s′ n k f → WholeOn k f → J .rule .CalmFacts s s′ →
+        {s′ : Ledger} {f : Effect} → Entering s s′ n k f → WholeOn k f → J .rule .CalmFacts s s′ → J .waits .Waiting s′ →
         Kept J got ground opening s′ (grown c n (Block.write (c .block n) i k f))
     unfolding Whole
-    enter-kept {s′} {f} enters whole facts =
+    enter-kept {s′} {f} enters whole facts waiting′ =
         let writes = entering-writes (kept .proper) permitted enters in
         let own = permitted .own in
         record {
@@ -166,6 +171,7 @@ module _
           parents = same-parents (writes .nobody-new) (writes .change .parent-kept) (kept .parents);
           whole = own-whole n own (Block.write (c .block n) i k f) (kept .whole n, whole);
           top = own-top n own (Block.write (c .block n) i k f);
+          waiting = waiting′;
         }
 
   -- a commit: the block of n is taken out and laid into its parent's
@@ -227,10 +233,10 @@ module _
         cases (no ne) = rw (put-elsewhere rest p (child (rest p) i n (c .block n)) 0 ne) rest-top
 
     pub pass-kept :
-        isCommitOutside (s .table) (s .base) n Nothing ≡ false → Proper s′ → J .rule .pass s n →
+        isCommitOutside (s .table) (s .base) n Nothing ≡ false → Proper s′ → J .rule .pass s n → J .waits .Waiting s′ →
         Kept J got ground opening s′ (laid i c n)
     unfolding committedUnder
-    pass-kept fits proper′ passed =
+    pass-kept fits proper′ passed waiting′ =
         let commits = abstract-commit (kept .proper) j refl fits in
         record {
           proper = proper′;
@@ -240,4 +246,5 @@ module _
           parents = same-parents (commits .nobody-new) (commits .change .parent-kept) (kept .parents);
           whole = laid-whole;
           top = laid-top;
+          waiting = waiting′;
         }

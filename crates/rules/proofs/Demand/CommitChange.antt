@@ -31,7 +31,7 @@ module _
   abbrev table′ : List ℕ
   table′ = commitTable (s .table) n p
 
-  committed-proper : Proper (committedUnder s n p)
+  pub committed-proper : Proper (committedUnder s n p)
   unfolding committedUnder
   committed-proper =
       record {

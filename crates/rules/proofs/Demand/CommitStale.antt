@@ -41,9 +41,9 @@ module _ {s : Ledger} (proper : Proper s) {n p : ℕ} (judged : Committable (s .
   -- ---- a read that was stale
 
   -- a committed action isn't the one that commits, nor its parent, which is the store or live
-  committed-row-kept : (m : ℕ) → IsStarted (s .table) m → isCommitted (s .table) m ≡ true → RowKept (s .table) table′ m
+  pub committed-row-kept : (m : ℕ) → IsStarted (s .table) m → isCommitted (s .table) m ≡ true → RowKept (s .table) table′ m
   committed-row-kept m begun done g h =
-      commit-keeps-row (s .table) n p (judged .own .0) m g h (begun .0) not-committing (inl not-parent)
+      commit-keeps-row (s .table) n p (judged .own .0) m g (omega arith) (begun .0) not-committing (inl not-parent)
     where
       not-committing : m ≢ n
       not-committing e = live-uncommitted (s .table) n (judged .alive) (rw e at done)

@@ -9,9 +9,11 @@ use mathlib.Core.Logic.{_⊎_, inl, inr, _≢_}
 use mathlib.Core.Bool.{true}
 use Rattle.rules.specs.Card.{accountCount}
 use Rattle.rules.specs.Table.{word, stateField, readField, readEntry, writeFields}
+use Rattle.rules.specs.Queue.{theQueue}
 use Rattle.rules.specs.Sound.{IsStarted}
 use Rattle.rules.specs.Ledger.{Ledger}
 use Rattle.rules.specs.Serial.Effect.{Effect, lay}
+use Rattle.rules.proofs.Laws.Queue.{SameLine}
 use Rattle.rules.proofs.Laws.Permitted.{Touchable, no-live-child}
 use Rattle.rules.proofs.Sound.TableChanges.{TableChange, live-uncommitted}
 use Rattle.rules.proofs.Serial.Values.{accountValues, lay-nothing}
@@ -32,6 +34,7 @@ pub record Entering (s t : Ledger) (n k : ℕ) (f : Effect) : Type 0 where
   -- parents, states, end times and reads stay, and so does every row but n's
   pub fields : (m g : ℕ) → g < writeFields → word (t .table) m g ≡ word (s .table) m g
   pub rows : (m : ℕ) → m ≢ n → RowKept (s .table) (t .table) m
+  pub sameLine : SameLine (s .table) (t .table) theQueue
   pub laid : effectOf t n k ≡ lay f (effectOf s n k)
   -- another action's effect, or on another account
   pub elsewhere : (X j : ℕ) → IsStarted (s .table) X → (X ≢ n) ⊎ (j ≢ k) → effectOf t X j ≡ effectOf s X j

@@ -1,8 +1,8 @@
 -- What demand 3's proof asks of the rule by which commits are judged: the rule itself, that a commit which the engine lets
--- pass may pass by it, and what it has to be told of each event. Assumes nothing.
+-- pass may pass by it, what it has to be told of each step, and what holds of those who wait to be judged. Assumes nothing.
 use Prim.Native.Nat.{ℕ, _<_}
 use mathlib.Core.Path.{_≡_}
-use mathlib.Core.Bool.{true}
+use mathlib.Core.Bool.{true, false}
 use mathlib.Core.List.{List}
 use lib.IntN.{_+ℤ_}
 use Rattle.rules.specs.declared.Found.the-variants.{Nothing}
@@ -11,11 +11,15 @@ use Rattle.rules.specs.Amount.{isAmount, amountIn}
 use Rattle.rules.specs.Table.{aborted, parentOf, withState, pendingSum}
 use Rattle.rules.specs.Clash.{firstClash}
 use Rattle.rules.specs.Ledger.{Ledger, withTable}
-use Rattle.rules.specs.Step.{start, read, write, add, committedUnder, abort}
+use Rattle.rules.specs.Walk.{isAbortedBy}
+use Rattle.rules.specs.Queue.{theQueue, Entry, isQueued, withQueue}
+use Rattle.rules.specs.Sound.{SoundQueue}
+use Rattle.rules.specs.Step.{start, read, write, add, committedUnder, abortTable}
 use Rattle.rules.proofs.Laws.Permitted.{Startable, Touchable, Committable}
 use Rattle.rules.proofs.Serial.Rule.{Rule}
 use Rattle.rules.proofs.Demand.Abstraction.{abstraction}
 use Rattle.rules.proofs.Demand.Proper.{Proper}
+use Rattle.rules.proofs.Demand.WaitingRule.{WaitingRule}
 
 pub record JudgingRule : Type 1 where
   pub rule : Rule abstraction
@@ -29,10 +33,18 @@ pub record JudgingRule : Type 1 where
   pub at-add :
       (s : Ledger) → Proper s → (n k : ℕ) → Touchable (s .table) n k → IsCharge k → (card : List ℕ) →
       isAmount (pendingSum (s .table) n k +ℤ amountIn card) ≡ true → rule .CalmFacts s (add s n k card .after)
-  pub at-abort : (s : Ledger) → Proper s → (n : ℕ) → rule .CalmFacts s (abort s n .after)
+  pub at-abort :
+      (s : Ledger) → Proper s → (n : ℕ) →
+      ((m : ℕ) → isQueued (s .table) theQueue m ≡ true → isAbortedBy (s .table) n m ≡ false) →
+      rule .CalmFacts s (withTable s (abortTable (s .table) n))
+  -- a change of the queue
+  pub at-queue :
+      (s : Ledger) → Proper s → (es : List Entry) → SoundQueue (withQueue (s .table) theQueue es) theQueue →
+      rule .CalmFacts s (withTable s (withQueue (s .table) theQueue es))
   pub at-failed-commit :
       (s : Ledger) → Proper s → (n : ℕ) → Committable (s .table) n →
       rule .CalmFacts s (withTable s (withState (s .table) n aborted))
   pub at-commit :
       (s : Ledger) → Proper s → (n : ℕ) → Committable (s .table) n →
       rule .CommitFacts s (committedUnder s n (parentOf (s .table) n)) n (parentOf (s .table) n)
+  pub waits : WaitingRule rule

@@ -1,17 +1,23 @@
 -- Ledgers of which no event is refused for the table or the stores: a new table is such, and every event keeps it so.
 -- Assumes nothing.
 use Prim.Native.Nat.{ℕ}
-use mathlib.Core.Path.{_≡_, _∙_}
+use mathlib.Core.Path.{_≡_}
+use mathlib.Core.Bool.{Bool, true, false}
 use mathlib.Core.List.{List, [], _∷_}
 use lib.ListN.{length}
 use Rattle.rules.specs.Card.{baseLength, shadowLength}
+use Rattle.rules.specs.Queue.{theQueue, isHeadReady}
 use Rattle.rules.specs.Sound.{Sound}
 use Rattle.rules.specs.Event.{Event}
-use Rattle.rules.specs.Ledger.{Ledger}
-use Rattle.rules.specs.Step.{step}
+use Rattle.rules.specs.Ledger.{Ledger, withTable}
+use Rattle.rules.specs.Step.{takenOut, Left, nobodyLeft, leave, revealed, dropped, step, headOut, headLeft, headBefore}
 use Rattle.rules.specs.Run.{run}
 use Rattle.rules.specs.Serial.Demand.{newOver}
-use Rattle.rules.proofs.Sound.Kept.{new-sound, step-keeps-sound}
+use Rattle.rules.proofs.Laws.Permitted.{Judgeable}
+use Rattle.rules.proofs.Sound.Leaving.{head-out-sound, head-left-sound, leave-by-heads}
+use Rattle.rules.proofs.Sound.Kept.{new-sound, out-sound, revealed-sound, dropped-sound, step-keeps-sound}
+use Rattle.rules.proofs.Stores.Leaves.{LedgerFits, still-fit}
+use Rattle.rules.proofs.Stores.Leavers.{head-lengths}
 use Rattle.rules.proofs.Stores.Untouched.{lengths-kept}
 
 pub record Proper (s : Ledger) : Type 0 where
@@ -22,16 +28,62 @@ pub record Proper (s : Ledger) : Type 0 where
 pub new-proper : (base shadow : List ℕ) → length base ≡ baseLength → length shadow ≡ shadowLength → Proper (newOver base shadow)
 new-proper base shadow baseFits shadowFits = record { sound = new-sound; baseFits = baseFits; shadowFits = shadowFits }
 
+-- ---- what keeps it so
+
+proper-of : {s : Ledger} → Sound (s .table) → LedgerFits s → Proper s
+proper-of sound fits = record { sound = sound; baseFits = fits .baseFits; shadowFits = fits .shadowFits }
+
+stores-fit : {s : Ledger} → Proper s → LedgerFits s
+stores-fit proper = record { baseFits = proper .baseFits; shadowFits = proper .shadowFits }
+
+-- a change of the table alone
+pub table-proper : {s : Ledger} → Proper s → (v : List ℕ) → Sound v → Proper (withTable s v)
+table-proper proper v sound = proper-of sound (stores-fit proper)
+
 pub step-keeps-proper : (s : Ledger) (e : Event) → Proper s → Proper (step s e .after)
 step-keeps-proper s e proper =
-    let lengths = lengths-kept s e in
-    record {
-      sound = step-keeps-sound s e (proper .sound);
-      baseFits = lengths .ofBase ∙ proper .baseFits;
-      shadowFits = lengths .ofShadow ∙ proper .shadowFits;
-    }
+    proper-of (step-keeps-sound s e (proper .sound)) (still-fit (lengths-kept s e) (stores-fit proper))
 
 pub run-keeps-proper : (s : Ledger) (es : List Event) → Proper s → Proper (run s es .after)
 unfolding run
 run-keeps-proper s [] proper = proper
 run-keeps-proper s (e ∷ es) proper = run-keeps-proper (step s e .after) es (step-keeps-proper s e proper)
+
+-- ---- before the head of the queue is tried
+
+module _ {s : Ledger} (proper : Proper s) (n : ℕ) where
+  pub out-proper : Proper (takenOut s theQueue n)
+  out-proper = table-proper proper _ (out-sound s (proper .sound) n)
+
+  pub revealed-proper : Judgeable (s .table) n → (b : Bool) → Proper (revealed s n b)
+  unfolding revealed
+  revealed-proper j true = table-proper proper _ (revealed-sound s (proper .sound) n (j .queued) true)
+  revealed-proper j false = table-proper proper _ (revealed-sound s (proper .sound) n (j .queued) false)
+
+  pub dropped-proper : Proper (dropped s n)
+  unfolding dropped
+  dropped-proper = table-proper proper _ (dropped-sound s (proper .sound) n)
+
+-- ---- those who leave it
+
+module _ (s : Ledger) (proper : Proper s) (ready : isHeadReady (s .table) theQueue ≡ true) where
+  pub head-out-proper : Proper (headOut theQueue s)
+  head-out-proper = table-proper proper _ (head-out-sound s (proper .sound) ready)
+
+  pub head-left-proper : Proper (headLeft theQueue s)
+  head-left-proper =
+      let sound = proper .sound in
+      proper-of (head-left-sound s sound ready) (still-fit (head-lengths s sound ready (stores-fit proper)) (stores-fit proper))
+
+-- what holds where nobody leaves, and with the head where it holds of those who leave after it, holds of all
+pub leave-by-proper-heads :
+    (R : Ledger → Left → Type 0) → ((s : Ledger) → Proper s → R s (nobodyLeft s)) →
+    ((s : Ledger) → Proper s → isHeadReady (s .table) theQueue ≡ true → (rest : Left) → R (headLeft theQueue s) rest →
+    R s (headBefore theQueue s rest)) →
+    (s : Ledger) → Proper s → R s (leave theQueue s)
+leave-by-proper-heads R nobody head s proper =
+    leave-by-heads (λ t left. LedgerFits t → R t left)
+    (λ t sound fits. nobody t (proper-of sound fits))
+    (λ t sound ready rest later fits.
+    let here = proper-of sound fits in head t here ready rest (later (stores-fit (head-left-proper t here ready))))
+    s (proper .sound) (stores-fit proper)

@@ -14,6 +14,7 @@ use Rattle.rules.specs.Event.{readBy}
 use Rattle.rules.specs.Answer.{said}
 use Rattle.rules.specs.Nearest.{readSum}
 use Rattle.rules.specs.Cause.{isReadOutside, areOutside}
+use Rattle.rules.specs.Queue.{theQueue, isQueued}
 use Rattle.rules.specs.Ledger.{Ledger, withTable}
 use Rattle.rules.specs.Step.{readTable, readAnswer, read}
 use Rattle.rules.proofs.Laws.Amounts.{amount-read-back}
@@ -23,7 +24,8 @@ use Rattle.rules.proofs.Laws.Allowed.{allowed-none}
 use Rattle.rules.proofs.Laws.Permitted.{Touchable, read-sum-fits}
 use Rattle.rules.proofs.Sound.Soundness.{tested}
 use Rattle.rules.proofs.Sound.TableChanges.{TableChange}
-use Rattle.rules.proofs.Sound.Reading.{read-keeps-field, read-change}
+use Rattle.rules.proofs.Laws.Queue.{queue-kept}
+use Rattle.rules.proofs.Sound.Reading.{read-keeps-field, read-line, read-change}
 use Rattle.rules.proofs.Stores.Looking.{look-refused-as-read}
 use Rattle.rules.proofs.Serial.Values.{charge}
 use Rattle.rules.proofs.Serial.Shown.{shownBase, cardShown}
@@ -36,7 +38,7 @@ use Rattle.rules.proofs.Demand.Views.{change-keeps-proper}
 use Rattle.rules.proofs.Demand.Looks.{lookCauseIn, lookedIn, seenWith, shownUnder, view-looked, base-shown}
 
 module _ (s : Ledger) (proper : Proper s) (n k : ℕ) (permitted : Touchable (s .table) n k) where
-  open Touchable permitted using (own, alive, childless, account)
+  open Touchable permitted using (own, alive, childless, unqueued, account)
 
   abbrev before : List ℕ
   before = s .table
@@ -45,7 +47,7 @@ module _ (s : Ledger) (proper : Proper s) (n k : ℕ) (permitted : Touchable (s 
   after = readTable before n k
 
   change : TableChange before after n
-  change = read-change before n k account (proper .sound)
+  change = read-change before n k account (proper .sound) own
 
   proper-after : Proper (withTable s after)
   proper-after = change-keeps-proper proper change
@@ -75,6 +77,10 @@ module _ (s : Ledger) (proper : Proper s) (n k : ℕ) (permitted : Touchable (s 
       ap (λ x. above +ℤ amountOf x) (read-keeps-field before n k account m (pendingField k) (omega arith) (λ z. omega arith)))
       mostActions mostActions n tt up up
 
+  unqueued-after : isQueued after theQueue n ≡ false
+  unfolding isQueued
+  unqueued-after = rw (queue-kept before after theQueue (omega arith) (read-line before n k account (proper .sound) own)) unqueued
+
   module _ (fits : isReadOutside before (s .base) n k ≡ false) where
     fits-after : isReadOutside after (s .base) n k ≡ false
     unfolding isReadOutside
@@ -103,6 +109,9 @@ module _ (s : Ledger) (proper : Proper s) (n k : ℕ) (permitted : Touchable (s 
                 noCardOnCharge = λ writes. absurd (false≢true writes);
                 addable = λ adds. absurd (false≢true adds);
                 childless = λ _. childless-after;
+                unqueued = λ _. unqueued-after;
+                judgeDue = λ judges. absurd (false≢true judges);
+                queueEmpty = λ commits. absurd (false≢true commits);
               };
           sumsFit = fits-after;
         })

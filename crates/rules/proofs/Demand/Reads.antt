@@ -27,9 +27,9 @@ use Rattle.rules.proofs.Demand.AbstractionLaws.{alive-started, live-ali
 use Rattle.rules.proofs.Demand.Views.{RecordsKept, Keeps, keeps-still, keeps-old, was-alive, change-keeps-proper}
 
 -- its answer tells of a read, whatever the account's kind
-pub read-told : (w base : List ℕ) (n k : ℕ) → told (readAnswer w base n k) ≡ itRead
+pub read-told : (w base : List ℕ) (n k : ℕ) (leavers : List ℕ) → told (readAnswer w base n k) leavers ≡ itRead
 unfolding readAnswer
-read-told w base n k = cond-holds (λ a. told a ≡ itRead) (isCharge k) (λ _. refl) (λ _. refl)
+read-told w base n k leavers = cond-holds (λ a. told a leavers ≡ itRead) (isCharge k) (λ _. refl) (λ _. refl)
 
 module _ (s : Ledger) (proper : Proper s) (n k : ℕ) (permitted : Touchable (s .table) n k) where
   open Touchable permitted using (own, alive, account)
@@ -41,7 +41,7 @@ module _ (s : Ledger) (proper : Proper s) (n k : ℕ) (permitted : Touchable (s 
   after = readTable before n k
 
   change : TableChange before after n
-  change = read-change before n k account (proper .sound)
+  change = read-change before n k account (proper .sound) own
 
   -- a time that is there stays
   entry-kept : (m j : ℕ) → j < accountCount → hasRead before m j ≡ true → readEntry after m j ≡ readEntry before m j
@@ -66,7 +66,7 @@ module _ (s : Ledger) (proper : Proper s) (n k : ℕ) (permitted : Touchable (s 
   records-kept =
       record {
         noFewer = le-of-eq (sym (change .sameStarted));
-        rows = λ m h done g inside. read-keeps-row before n k account m g inside (λ e. live-uncommitted before n alive (rw e at done));
+        rows = λ m h done g inside. read-keeps-row before n k account m g (omega arith) (λ e. live-uncommitted before n alive (rw e at done));
       }
 
   -- where the reader has no card the account is in its read set then

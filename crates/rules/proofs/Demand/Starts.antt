@@ -37,7 +37,7 @@ module _ (s : Ledger) (proper : Proper s) (p : ℕ) (permitted : Startable (s .t
 
   -- who had started before keeps its row
   row-kept : (m : ℕ) → IsStarted before m → RowKept before after m
-  row-kept m h g inside = start-keeps-row before p m g inside (h .0) (λ z. omega arith)
+  row-kept m h g inside = start-keeps-row before p m g (omega arith) (h .0) (λ z. omega arith)
 
   live-row-kept : (m : ℕ) → isAlive before m ≡ true → RowKept before after m
   live-row-kept m l = row-kept m (alive-started before m l)
@@ -57,7 +57,7 @@ module _ (s : Ledger) (proper : Proper s) (p : ℕ) (permitted : Startable (s .t
   start-keeps-proper : Proper (withTable s after)
   start-keeps-proper =
       record {
-        sound = start-keeps-sound before p (proper .sound) (permitted .room) (permitted .known) (permitted .alive);
+        sound = start-keeps-sound before p (proper .sound) (permitted .room) (permitted .known) (permitted .alive) (permitted .unqueued);
         baseFits = proper .baseFits;
         shadowFits = proper .shadowFits;
       }

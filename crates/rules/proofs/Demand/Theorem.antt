@@ -6,13 +6,15 @@ use mathlib.Core.Path.{_≡_, refl, sym, ap, _∙_}
 use mathlib.Core.List.{List, [], _∷_}
 use lib.ListN.{length, take, getD}
 use Rattle.rules.specs.Card.{baseLength, shadowLength, basePlace, cardAt}
+use Rattle.rules.specs.Table.{newTable, word}
+use Rattle.rules.specs.Queue.{theQueue, queueLength}
 use Rattle.rules.specs.Event.{Event, startUnder}
 use Rattle.rules.specs.Ledger.{Ledger}
 use Rattle.rules.specs.Step.{step}
 use Rattle.rules.specs.Run.{run}
 use Rattle.rules.specs.Serial.Collect.{collectFrom, unknown, storeBlock}
 use Rattle.rules.specs.Serial.Machine.{serial}
-use Rattle.rules.specs.Serial.Demand.{cardGiven, newOver, answersTo, sumGiven, Demand3}
+use Rattle.rules.specs.Serial.Demand.{cardGiven, newOver, toldOf, sumGiven, Demand3}
 use Rattle.rules.specs.Serial.Conserved.{Conserved}
 use Rattle.rules.proofs.Laws.Bytes.{store-by-cards}
 use Rattle.rules.proofs.Serial.Values.{AccountValue, accountValues}
@@ -71,6 +73,10 @@ given-along got ground i s (e ∷ es) seen below = (
 
 -- ---- under any judging rule
 
+new-queue-empty : queueLength newTable theQueue ≡ 0
+unfolding newTable word
+new-queue-empty = refl
+
 module _ (J : JudgingRule) (base shadow : List ℕ) (baseFits : length base ≡ baseLength) (shadowFits : length shadow ≡ shadowLength) where
   kept-at-first : (got ground : ℕ → AccountValue) → Kept J got ground (shownBase base) (newOver base shadow) unknown
   unfolding unknown Whole OnlyChildren
@@ -82,6 +88,7 @@ module _ (J : JudgingRule) (base shadow : List ℕ) (baseFits : length base ≡ 
         parents = λ X l. absurd (new-nobody-alive X l);
         whole = λ n. tt;
         top = tt;
+        waiting = J .waits .none-waits (newOver base shadow) new-queue-empty;
       }
 
   module _ (es : List Event) where
@@ -94,12 +101,12 @@ module _ (J : JudgingRule) (base shadow : List ℕ) (baseFits : length base ≡ 
     abbrev final : Ledger
     final = run (newOver base shadow) es .after
 
-    kept-at-last : Kept J got ground (shownBase base) final (collectFrom 0 es (answersTo base shadow es) unknown)
+    kept-at-last : Kept J got ground (shownBase base) final (collectFrom 0 es (toldOf base shadow es) unknown)
     kept-at-last =
         run-keeps J got ground (shownBase base) 0 es (kept-at-first got ground)
         (given-along got ground 0 (newOver base shadow) es (λ j. ap got (zero-add j)) (λ j. ap ground (zero-add j)))
 
-    block-ran : SerialRun got ground (storeBlock es (answersTo base shadow es)) base (serial es (answersTo base shadow es) base)
+    block-ran : SerialRun got ground (storeBlock es (toldOf base shadow es)) base (serial es (toldOf base shadow es) base)
     unfolding serial storeBlock
     block-ran =
         block-runs got ground _ (kept-at-last .whole 0) (kept-at-last .top) base baseFits
@@ -107,12 +114,12 @@ module _ (J : JudgingRule) (base shadow : List ℕ) (baseFits : length base ≡ 
 
     -- what the store's block leaves is what the base store shows after S
     block-leaves :
-        (k : ℕ) → after accountValues (storeBlock es (answersTo base shadow es)) (shownBase base) k ≡ shownBase (final .base) k
+        (k : ℕ) → after accountValues (storeBlock es (toldOf base shadow es)) (shownBase base) k ≡ shownBase (final .base) k
     unfolding storeBlock
     block-leaves = kept-at-last .holds .holds .store .leaves
 
     same-cards :
-        (k : ℕ) → cardAt (serial es (answersTo base shadow es) base .base) (basePlace k) ≡ cardAt (final .base) (basePlace k)
+        (k : ℕ) → cardAt (serial es (toldOf base shadow es) base .base) (basePlace k) ≡ cardAt (final .base) (basePlace k)
     same-cards k =
         sym (card-shown k _) ∙ ap cardShown (block-ran .leaves k ∙ block-leaves k) ∙ card-shown k _
 
@@ -122,8 +129,8 @@ module _ (J : JudgingRule) (base shadow : List ℕ) (baseFits : length base ≡ 
           reads = λ g m. block-ran .reads g m .card ∙ card-given (newOver base shadow) es (g .place);
           amounts = λ g m. block-ran .reads g m .amount ∙ sum-given (newOver base shadow) es (g .place);
           store = store-by-cards _ _ (block-ran .long) (kept-at-last .proper .baseFits) (λ k _. same-cards k);
-          exact = exact-acts es (answersTo base shadow es);
-          order = in-order es (answersTo base shadow es);
+          exact = exact-acts es (toldOf base shadow es);
+          order = in-order es (toldOf base shadow es);
         }
 
     conserved-under : Conserved base shadow es
@@ -131,7 +138,7 @@ module _ (J : JudgingRule) (base shadow : List ℕ) (baseFits : length base ≡ 
     conserved-under =
         record {
           conserves = λ k charge.
-              store-conserves es (answersTo base shadow es) (kept-at-last .whole 0) charge base (final .base) (block-leaves k);
+              store-conserves es (toldOf base shadow es) (kept-at-last .whole 0) charge base (final .base) (block-leaves k);
         }
 
 -- ---- under the engine's

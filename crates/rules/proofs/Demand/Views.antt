@@ -7,7 +7,7 @@ use mathlib.Core.Path.{_≡_, refl, sym, ap, _∙_}
 use mathlib.Core.Bool.{true}
 use mathlib.Core.List.{List}
 use Rattle.rules.specs.Card.{accountCount, firstCharge, IsCharge, shadowPlace, cardAt}
-use Rattle.rules.specs.Table.{width, word, started, parentField, parentOf, stateField, endField, readEntry, hasRead, readTime, writeField, writeEntry, hasWrites, pendingWord, isCommitted, hasEnd, isChildOf, isRecordOf}
+use Rattle.rules.specs.Table.{actionWidth, word, started, parentField, parentOf, stateField, endField, readEntry, hasRead, readTime, writeField, writeEntry, hasWrites, pendingWord, isCommitted, hasEnd, isChildOf, isRecordOf}
 use Rattle.rules.specs.Sound.{IsStarted}
 use Rattle.rules.specs.Ledger.{Ledger, withTable}
 use Rattle.rules.proofs.Laws.Tests.{and-left, and-right}
@@ -38,11 +38,11 @@ effect-kept s t X k entry sum card =
 
 -- ---- stale reads
 
--- no word of row m has changed
+-- no word of action m has changed
 abbrev pub RowKept : List ℕ → List ℕ → ℕ → Type 0
-RowKept w v m = (g : ℕ) → g < width → word v m g ≡ word w m g
+RowKept w v m = (g : ℕ) → g < actionWidth → word v m g ≡ word w m g
 
-record-committed : (w : List ℕ) (Q m : ℕ) → isRecordOf w Q m ≡ true → isCommitted w m ≡ true
+pub record-committed : (w : List ℕ) (Q m : ℕ) → isRecordOf w Q m ≡ true → isCommitted w m ≡ true
 unfolding isRecordOf
 record-committed w Q m is = and-left (isCommitted w m) (hasWrites w m) (and-right (isChildOf w Q m) (hasEnd w m) is)
 

@@ -5,8 +5,8 @@ use native.Mathlib.Nat.{sub-zero}
 use native.Mathlib.Omega.{arith}
 use mathlib.Core.Path.{_≡_, refl}
 use mathlib.Core.Logic.{inl, inr, ⊎-elim, _≢_}
-use mathlib.Core.Bool.{true, false}
-use mathlib.Core.List.{List, [], _∷_}
+use mathlib.Core.Bool.{Bool, true, false}
+use mathlib.Core.List.{List, [], _∷_, _++_}
 use lib.IntN.{_+ℤ_}
 use lib.ListN.{length}
 use Rattle.rules.specs.declared.Answer.the-variants.{Refused}
@@ -18,29 +18,34 @@ use Rattle.rules.specs.Table.{stateField, parentOf, pendingSum}
 use Rattle.rules.specs.Event.{Event}
 use Rattle.rules.specs.Cause.{isCommitOutside}
 use Rattle.rules.specs.Ledger.{Ledger}
-use Rattle.rules.specs.Step.{commitTable, committedUnder, Outcome, start, read, write, add, judged, abort, step}
+use Rattle.rules.specs.Queue.{theQueue, isHeadReady, isQueuedFailed, withTail, withReady, withoutBelow}
+use Rattle.rules.specs.Step.{commitTable, committedUnder, Outcome, start, read, write, add, judged, takenOut, finished, committing, Left, leave, enter, revealed, judgeLeft, judgeAnswer, judge, dropped, abortLeft, abort, step, leaversAt, headIn, headOut, isHeadOutside}
 use Rattle.rules.specs.Run.{run}
-use Rattle.rules.specs.Serial.Told.{told}
-use Rattle.rules.specs.Serial.Demand.{newOver, answersTo}
+use Rattle.rules.specs.Serial.Told.{told, toldAll}
+use Rattle.rules.specs.Serial.Demand.{newOver, toldOf}
 use Rattle.rules.specs.Serial.Starts.{noStarts, lineageOf, PlainR}
 use Rattle.rules.proofs.Laws.EventCases.{causeIn}
-use Rattle.rules.proofs.Laws.Permitted.{Startable, Touchable, Committable, not-own-parent, step-by-kind}
+use Rattle.rules.proofs.Laws.Permitted.{Startable, Touchable, Committable, Judgeable, not-own-parent, step-by-kind}
 use Rattle.rules.proofs.Sound.Starting.{start-parent}
 use Rattle.rules.proofs.Sound.Committing.{commit-keeps-row}
+use Rattle.rules.proofs.Sound.QueueChanges.{tail-change, ready-change, without-change, out-committable}
+use Rattle.rules.proofs.Sound.Leaving.{head-committable, leave-by-heads}
 use Rattle.rules.proofs.Serial.Lineages.{ordered-at-first, from-ordered, inR-by-rule, rule-decides}
-use Rattle.rules.proofs.Serial.Agreement.{Ends, Tells, TellAll, no-more, tells-then, change-tells, Agree, agree-at-first}
+use Rattle.rules.proofs.Serial.Agreement.{Ends, Quiet, LetLeave, none-leaves, some-dropped, one-leaves, Tells, TellAll, no-more, tells-then, change-quiet, drop-quiet, change-tells, leave-tells, Agree, agree-at-first}
 use Rattle.rules.proofs.Serial.Following.{same-starts, same-acts}
 use Rattle.rules.proofs.Demand.Abstraction.{isAlive, abstraction}
-use Rattle.rules.proofs.Demand.Proper.{Proper, new-proper, step-keeps-proper}
+use Rattle.rules.proofs.Demand.Proper.{Proper, new-proper, step-keeps-proper, out-proper, dropped-proper}
 use Rattle.rules.proofs.Demand.AbstractionLaws.{new-nobody-alive, alive-started, alive-live, live-alive, abstract-tree}
 use Rattle.rules.proofs.Demand.Starts.{start-starts}
 use Rattle.rules.proofs.Demand.Reads.{read-told, read-reads}
 use Rattle.rules.proofs.Demand.Entering.{entering-writes}
 use Rattle.rules.proofs.Demand.Writes.{write-enters}
 use Rattle.rules.proofs.Demand.Adds.{add-enters}
-use Rattle.rules.proofs.Demand.Drops.{abort-drops, fail-drops}
+use Rattle.rules.proofs.Demand.Drops.{abort-drops, queue-drops, fail-drops}
+use Rattle.rules.proofs.Demand.Views.{change-keeps-proper}
+use Rattle.rules.proofs.Demand.LeaversKept.{spared, fail-proper}
 use Rattle.rules.proofs.Demand.CommitTable.{table-change, still-alive-other}
-use Rattle.rules.proofs.Demand.CommitChange.{abstract-commit}
+use Rattle.rules.proofs.Demand.CommitChange.{committed-proper, abstract-commit}
 
 -- ---- a commit that passes
 
@@ -69,18 +74,54 @@ module _
         nobody-new = c .nobody-new;
       }
 
+-- ---- those who leave the queue
+
+-- the chain of those who leave, from one ledger to another
+abbrev Chain : Ledger → Left → Type 0
+Chain s left = Proper s → LetLeave (abstraction s) (abstraction (left .after)) (left .commits)
+
+module _ (s : Ledger) (proper : Proper s) where
+  -- some are taken out of the queue, which nobody sees
+  out-quiet : (n : ℕ) → Quiet (abstraction s) (abstraction (takenOut s theQueue n))
+  unfolding withoutBelow
+  out-quiet n = drop-quiet (queue-drops s proper _ (without-change (proper .sound) n n .line))
+
+  module _ (ready : isHeadReady (s .table) theQueue ≡ true) (rest : Left) where
+    head-by-sums :
+        (b : Bool) → isHeadOutside theQueue s ≡ b → Chain (finished (headOut theQueue s) (headIn theQueue s) b) rest →
+        LetLeave (abstraction s) (abstraction (rest .after)) (committing (headIn theQueue s) b ++ rest .commits)
+    unfolding finished
+    head-by-sums true outside later =
+        let out = out-proper proper (headIn theQueue s) in
+        let free = head-committable s (proper .sound) ready in
+        some-dropped (out-quiet (headIn theQueue s))
+        (some-dropped (drop-quiet (fail-drops _ out (headIn theQueue s) free)) (later (fail-proper out (headIn theQueue s) free)))
+    head-by-sums false fits later =
+        let out = out-proper proper (headIn theQueue s) in
+        let free = head-committable s (proper .sound) ready in
+        let commits = abstract-commit out free refl fits in
+        some-dropped (out-quiet (headIn theQueue s))
+        (one-leaves (change-quiet (commits .change) (commits .nobody-new)) (commit-ends out free fits)
+        (later (committed-proper out free refl fits)))
+
+leave-chain : (s : Ledger) → Proper s → LetLeave (abstraction s) (abstraction (leave theQueue s .after)) (leave theQueue s .commits)
+leave-chain s proper =
+    leave-by-heads Chain (λ t sound proper′. none-leaves)
+    (λ t sound ready rest later proper′. head-by-sums t proper′ ready rest (isHeadOutside theQueue t) refl later)
+    s (proper .sound) proper
+
 -- ---- one event
 
 module _ (s : Ledger) (proper : Proper s) (e : Event) where
-  -- the outcome does what its answer tells
-  AsTold : Outcome → Type 0
-  AsTold o = Tells (abstraction s) (abstraction (o .after)) e (told (o .answer))
+  -- the outcome does what its answer tells, and those fed beside it
+  AsTold : Outcome → List ℕ → Type 0
+  AsTold o leavers = Tells (abstraction s) (abstraction (o .after)) e (told (o .answer) leavers)
 
-  refused : AsTold (record { answer = Refused (causeIn s e); after = s })
+  refused : AsTold (record { answer = Refused (causeIn s e); after = s }) []
   unfolding AsTold
   refused = record { tree′ = abstract-tree s proper; parent-kept = λ X x. refl; lives = λ X l. l }
 
-  starts : Startable (s .table) (e .number) → AsTold (start s (e .number))
+  starts : Startable (s .table) (e .number) → AsTold (start s (e .number)) []
   unfolding AsTold start
   starts permitted =
       let st = start-starts s proper (e .number) permitted in
@@ -92,15 +133,15 @@ module _ (s : Ledger) (proper : Proper s) (e : Event) where
         nobody-else-new = st .nobody-else-new;
       })
 
-  reads : Touchable (s .table) (e .number) (e .account) → AsTold (read s (e .number) (e .account))
+  reads : Touchable (s .table) (e .number) (e .account) → AsTold (read s (e .number) (e .account)) []
   unfolding AsTold read
   reads permitted =
       let r = read-reads s proper (e .number) (e .account) permitted in
-      rw (read-told (s .table) (s .base) (e .number) (e .account)) (change-tells (r .still) (r .nobody-new, r .reader-live))
+      rw (read-told (s .table) (s .base) (e .number) (e .account) []) (change-tells (r .still) (r .nobody-new, r .reader-live))
 
   writes :
       Touchable (s .table) (e .number) (e .account) → IsCard (e .card) → e .account < firstCharge →
-      AsTold (write s (e .number) (e .account) (e .card))
+      AsTold (write s (e .number) (e .account) (e .card)) []
   unfolding AsTold write
   writes permitted card below =
       let entering = write-enters s proper (e .number) (e .account) permitted below (e .card) card in
@@ -110,7 +151,7 @@ module _ (s : Ledger) (proper : Proper s) (e : Event) where
   joins :
       Touchable (s .table) (e .number) (e .account) → IsCharge (e .account) →
       isAmount (pendingSum (s .table) (e .number) (e .account) +ℤ amountIn (e .card)) ≡ true →
-      AsTold (add s (e .number) (e .account) (e .card))
+      AsTold (add s (e .number) (e .account) (e .card)) []
   unfolding AsTold add
   joins permitted charge fits =
       let entering = add-enters s proper (e .number) (e .account) permitted charge (e .card) fits in
@@ -119,25 +160,56 @@ module _ (s : Ledger) (proper : Proper s) (e : Event) where
 
   judges :
       Committable (s .table) (e .number) → (f : Found) → isCommitOutside (s .table) (s .base) (e .number) f ≡ false →
-      AsTold (judged s (e .number) f)
+      AsTold (judged s (e .number) f) []
   unfolding AsTold judged
   judges j Nothing fits = change-tells (abstract-commit proper j refl fits .change) (commit-ends proper j fits)
   judges j (At t k) fits = let d = fail-drops s proper (e .number) j in change-tells (d .still) (d .nobody-new)
 
-  aborts : AsTold (abort s (e .number))
-  unfolding AsTold abort
-  aborts = let d = abort-drops s proper (e .number) in change-tells (d .still) (d .nobody-new)
+  enters : Committable (s .table) (e .number) → AsTold (enter s (e .number)) []
+  unfolding AsTold enter withTail
+  enters free =
+      let d = queue-drops s proper _ (tail-change (proper .sound) (e .number) free _ (e .number) .line) in
+      change-tells (d .still) (d .nobody-new)
 
-  event-tells : Tells (abstraction s) (abstraction (step s e .after)) e (told (step s e .answer))
+  -- the verdict is revealed, and some leave
+  revealed-chain :
+      Judgeable (s .table) (e .number) → (b : Bool) (left : ℕ) →
+      AsTold (record { answer = judgeAnswer b left; after = leave theQueue (revealed s (e .number) b) .after })
+      (leave theQueue (revealed s (e .number) b) .commits)
+  unfolding AsTold revealed withReady
+  revealed-chain j true left =
+      let out = out-proper proper (e .number) in
+      let free = out-committable (proper .sound) (e .number) (j .queued) in
+      leave-tells (abstract-tree s proper)
+      (some-dropped (out-quiet s proper (e .number))
+      (some-dropped (drop-quiet (fail-drops _ out (e .number) free)) (leave-chain _ (fail-proper out (e .number) free))))
+  revealed-chain j false left =
+      let change = ready-change (proper .sound) (e .number) (e .number) in
+      leave-tells (abstract-tree s proper)
+      (some-dropped (drop-quiet (queue-drops s proper _ (change .line))) (leave-chain _ (change-keeps-proper proper change)))
+
+  reveals : Judgeable (s .table) (e .number) → AsTold (judge s (e .number)) (judgeLeft s (e .number) .commits)
+  unfolding judge judgeLeft
+  reveals j = revealed-chain j (isQueuedFailed (s .table) theQueue (e .number)) _
+
+  aborts : AsTold (abort s (e .number)) (abortLeft s (e .number) .commits)
+  unfolding AsTold abort abortLeft dropped
+  aborts =
+      let out = out-proper proper (e .number) in
+      leave-tells (abstract-tree s proper)
+      (some-dropped (out-quiet s proper (e .number))
+      (some-dropped (drop-quiet (abort-drops _ out (e .number) (spared proper (e .number)))) (leave-chain _ (dropped-proper proper (e .number)))))
+
+  event-tells : Tells (abstraction s) (abstraction (step s e .after)) e (told (step s e .answer) (leaversAt s e))
   unfolding AsTold
   event-tells =
-      step-by-kind s e AsTold refused starts (λ permitted _. reads permitted) writes (λ j f _. judges j f)
-      (λ permitted _ charge fits. joins permitted charge (fits .pendingFits)) aborts
+      step-by-kind s e AsTold refused starts (λ permitted _. reads permitted) writes (λ j _ f _. judges j f)
+      (λ permitted _ charge fits. joins permitted charge (fits .pendingFits)) enters reveals aborts
 
 -- ---- a list of events
 
-run-tells : (es : List Event) {s : Ledger} → Proper s → TellAll (abstraction s) es (run s es .answers)
-unfolding run
+run-tells : (es : List Event) {s : Ledger} → Proper s → TellAll (abstraction s) es (toldAll (run s es .answers) (run s es .leavers))
+unfolding run toldAll
 run-tells [] proper = no-more
 run-tells (e ∷ es) {s} proper = tells-then (event-tells s proper e) (run-tells es (step-keeps-proper s e proper))
 
@@ -149,7 +221,7 @@ module _ (base shadow : List ℕ) (baseFits : length base ≡ baseLength) (shado
   pub plain-R : (es : List Event) → PlainR base shadow es
   unfolding lineageOf noStarts
   plain-R es =
-      let ordered = from-ordered ordered-at-first es (answersTo base shadow es) in
+      let ordered = from-ordered ordered-at-first es (toldOf base shadow es) in
       let all = run-tells es (new-proper base shadow baseFits shadowFits) in
       record {
         rule = inR-by-rule ordered;

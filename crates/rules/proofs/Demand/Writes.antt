@@ -6,6 +6,7 @@ use mathlib.Core.Logic.{_⊎_, inl, inr, _≢_}
 use mathlib.Core.List.{List}
 use Rattle.rules.specs.Card.{accountCount, firstCharge, IsCard, shadowPlace}
 use Rattle.rules.specs.Table.{width, word, writeField, writeEntry, pendingField}
+use Rattle.rules.specs.Queue.{theQueue, queueLengthField}
 use Rattle.rules.specs.Sound.{IsStarted}
 use Rattle.rules.specs.Ledger.{Ledger}
 use Rattle.rules.specs.Step.{writeTable, write}
@@ -40,7 +41,7 @@ module _
   field-kept = write-keeps-field (s .table) (proper .sound) n k own alive account
 
   row-kept : (m : ℕ) → m ≢ n → RowKept (s .table) table′ m
-  row-kept m other g h = write-keeps-row (s .table) (proper .sound) n k own alive account m g h other
+  row-kept m other g h = write-keeps-row (s .table) (proper .sound) n k own alive account m g (omega arith) other
 
   card-fits : Fits (s .shadow) (shadowPlace n k)
   card-fits = shadow-fits proper n k own account
@@ -85,6 +86,11 @@ module _
         change = table-change;
         fields = λ m g h. field-kept m g (omega arith) (λ z. omega arith);
         rows = row-kept;
+        sameLine =
+            record {
+              sameLength = field-kept 0 (queueLengthField theQueue) (omega arith) (λ z. omega arith);
+              sameEntries = λ i g _ behind inside. field-kept i g inside (λ z. omega arith);
+            };
         laid = effect-put;
         elsewhere = effect-elsewhere;
       }

@@ -3,15 +3,16 @@ use Prim.Native.Nat.{ℕ, suc, _≤_, _<_}
 use native.Mathlib.Omega.{arith}
 use mathlib.Core.Path.{_≡_, refl}
 use mathlib.Core.Logic.{_↔_, Iff·rfl}
-use mathlib.Core.Bool.{Bool, true, false, cond, _||_}
+use mathlib.Core.Bool.{Bool, true, false, not, cond, _||_}
 use mathlib.Core.List.{List, [], _++_}
 use lib.ListN.{length}
 use Rattle.rules.specs.Card.{accountCount, isCharge, cardLength, baseLength, shadowLength}
 use Rattle.rules.specs.Amount.{isAddable, amountIn}
 use Rattle.rules.specs.Table.{mostActions, started, isLive, hasLiveChild}
+use Rattle.rules.specs.Queue.{theQueue, queueLength, isQueued, isQueuedReady}
 use Rattle.rules.specs.Sound.{sound}
-use Rattle.rules.specs.Event.{Event, startCode, addCode, isStart, isRead, isWrite, isCommit, isAdd}
-use Rattle.rules.specs.Cause.{isStoreLengthWrong, isCodeUnknown, isNumberUnknown, isNotLive, isTableFull, isAccountUnknown, isCardLengthWrong, isKindWrong, isAmountTooLarge, isChildLive, isSumOutside, Cause, firstCause, storeCauses, earlyCauses, lateCauses, causesOf, causeOf}
+use Rattle.rules.specs.Event.{Event, startCode, judgeCode, isStart, isRead, isWrite, isCommit, isAbort, isAdd, isEnter, isJudge}
+use Rattle.rules.specs.Cause.{isStoreLengthWrong, isCodeUnknown, isNumberUnknown, isNotLive, isTableFull, isAccountUnknown, isCardLengthWrong, isKindWrong, isAmountTooLarge, isChildLive, isWaiting, isJudgeVain, isOvertaking, isSumOutside, Cause, firstCause, storeCauses, earlyCauses, lateCauses, causesOf, causeOf}
 use Rattle.rules.proofs.Laws.Tests.{not-holds, not-fails, and-holds, and-fails, and-fails-left, or-fails, eqb-holds, nonzero, leb-holds, leb-fails, ltb-fails}
 
 -- ---- what each cause denies
@@ -19,7 +20,7 @@ use Rattle.rules.proofs.Laws.Tests.{not-holds, not-fails, and-holds, an
 pub stores-fit : (base shadow : List ℕ) → (isStoreLengthWrong base shadow ≡ false) ↔ ((length base ≡ baseLength) × (length shadow ≡ shadowLength))
 stores-fit base shadow = simp (not-fails, and-holds, eqb-holds) Iff·rfl
 
-code-known : (code : ℕ) → (isCodeUnknown code ≡ false) ↔ ((startCode ≤ code) × (code ≤ addCode))
+code-known : (code : ℕ) → (isCodeUnknown code ≡ false) ↔ ((startCode ≤ code) × (code ≤ judgeCode))
 code-known code = simp (not-fails, and-holds, leb-holds) Iff·rfl
 
 number-known : (w : List ℕ) (start : Bool) (n : ℕ) → (isNumberUnknown w start n ≡ false) ↔ ((n ≤ started w) × (start ≡ false → 1 ≤ n))
@@ -48,11 +49,22 @@ amount-small used card = simp (and-fails, not-fails) Iff·rfl
 child-finished : (w : List ℕ) (used : Bool) (n : ℕ) → (isChildLive w used n ≡ false) ↔ (used ≡ true → hasLiveChild w n ≡ false)
 child-finished w used n = and-fails used (hasLiveChild w n)
 
+not-waiting : (w : List ℕ) (used : Bool) (n : ℕ) → (isWaiting w used n ≡ false) ↔ (used ≡ true → isQueued w theQueue n ≡ false)
+not-waiting w used n = and-fails used (isQueued w theQueue n)
+
+judge-due :
+    (w : List ℕ) (used : Bool) (n : ℕ) →
+    (isJudgeVain w used n ≡ false) ↔ (used ≡ true → (isQueued w theQueue n ≡ true) × (isQueuedReady w theQueue n ≡ false))
+judge-due w used n = simp (and-fails, or-fails, not-fails) Iff·rfl
+
+queue-empty : (w : List ℕ) (used : Bool) → (isOvertaking w used ≡ false) ↔ (used ≡ true → queueLength w theQueue ≡ 0)
+queue-empty w used = simp (and-fails, not-fails, eqb-holds) Iff·rfl
+
 -- ---- all of them together
 
 -- what holds of an event that has none of the early causes
 pub record EarlyAllowed (w : List ℕ) (e : Event) : Type 0 where
-  pub codeKnown : (startCode ≤ e .code) × (e .code ≤ addCode)
+  pub codeKnown : (startCode ≤ e .code) × (e .code ≤ judgeCode)
   pub numberKnown : e .number ≤ started w
   pub named : isStart e ≡ false → 1 ≤ e .number
   pub alive : 1 ≤ e .number → isLive w (e .number) ≡ true
@@ -62,7 +74,10 @@ pub record EarlyAllowed (w : List ℕ) (e : Event) : Type 0 where
   pub chargeAdded : isAdd e ≡ true → isCharge (e .account) ≡ true
   pub noCardOnCharge : isWrite e ≡ true → isCharge (e .account) ≡ false
   pub addable : isAdd e ≡ true → isAddable (amountIn (e .card)) ≡ true
-  pub childless : (isRead e || isWrite e || isCommit e || isAdd e) ≡ true → hasLiveChild w (e .number) ≡ false
+  pub childless : (isRead e || isWrite e || isCommit e || isAdd e || isEnter e) ≡ true → hasLiveChild w (e .number) ≡ false
+  pub unqueued : not (isJudge e || isAbort e) ≡ true → isQueued w theQueue (e .number) ≡ false
+  pub judgeDue : isJudge e ≡ true → (isQueued w theQueue (e .number) ≡ true) × (isQueuedReady w theQueue (e .number) ≡ false)
+  pub queueEmpty : isCommit e ≡ true → queueLength w theQueue ≡ 0
 
 -- what holds of an event that isn't refused
 pub record Allowed (w base shadow : List ℕ) (e : Event) : Type 0 where
@@ -90,7 +105,10 @@ module _ (w : List ℕ) (e : Event) where
       let (card, none₇) = not-given _ _ _ none₆ in
       let (kind, none₈) = not-given _ _ _ none₇ in
       let (amount, none₉) = not-given _ _ _ none₈ in
-      let (childLive, none) = not-given _ _ _ none₉ in (
+      let (childLive, none₁₀) = not-given _ _ _ none₉ in
+      let (waiting, none₁₁) = not-given _ _ _ none₁₀ in
+      let (vain, none₁₂) = not-given _ _ _ none₁₁ in
+      let (overtaking, none) = not-given _ _ _ none₁₂ in (
         record {
           codeKnown = code-known (e .code) .0 codeUnknown;
           numberKnown = number-known w (isStart e) (e .number) .0 numberUnknown .0;
@@ -102,7 +120,10 @@ module _ (w : List ℕ) (e : Event) where
           chargeAdded = kind-right e .0 kind .0;
           noCardOnCharge = kind-right e .0 kind .1;
           addable = amount-small (isAdd e) (e .card) .0 amount;
-          childless = child-finished w (isRead e || isWrite e || isCommit e || isAdd e) (e .number) .0 childLive;
+          childless = child-finished w (isRead e || isWrite e || isCommit e || isAdd e || isEnter e) (e .number) .0 childLive;
+          unqueued = not-waiting w (not (isJudge e || isAbort e)) (e .number) .0 waiting;
+          judgeDue = judge-due w (isJudge e) (e .number) .0 vain;
+          queueEmpty = queue-empty w (isCommit e) .0 overtaking;
         },
         none,
       )
@@ -123,7 +144,10 @@ module _ (w : List ℕ) (e : Event) where
         card-fits (isWrite e || isAdd e) (e .card) .1 (a .cardFits),
         kind-right e .1 (a .chargeAdded, a .noCardOnCharge),
         amount-small (isAdd e) (e .card) .1 (a .addable),
-        child-finished w (isRead e || isWrite e || isCommit e || isAdd e) (e .number) .1 (a .childless),
+        child-finished w (isRead e || isWrite e || isCommit e || isAdd e || isEnter e) (e .number) .1 (a .childless),
+        not-waiting w (not (isJudge e || isAbort e)) (e .number) .1 (a .unqueued),
+        judge-due w (isJudge e) (e .number) .1 (a .judgeDue),
+        queue-empty w (isCommit e) .1 (a .queueEmpty),
       )
 
 module _ (w base shadow : List ℕ) (e : Event) where

@@ -2,9 +2,10 @@
 use Prim.Native.Nat.{ℕ, _≤_, _<_}
 use native.Mathlib.Omega.{arith}
 use mathlib.Core.Path.{_≡_, refl}
-use mathlib.Core.Logic.{⊎-elim, _≢_}
+use mathlib.Core.Logic.{_≢_}
 use mathlib.Core.Bool.{Bool, true, false, not, _&&_, _||_}
-use mathlib.Core.List.{List}
+use mathlib.Core.List.{List, []}
+use lib.Dec.{eqb}
 use lib.IntN.{_+ℤ_}
 use borrow.Author.Tests.{eqb-true, eq-eqb}
 use Rattle.rules.specs.declared.Answer.the-variants.{Refused}
@@ -14,35 +15,45 @@ use Rattle.rules.specs.Card.{accountCount, firstCharge, chargeCount, isC
 use Rattle.rules.specs.Amount.{isAmount, isAddable, amountIn}
 use Rattle.rules.specs.Table.{mostActions, started, parentOf, hasWritten, pendingSum, ownAdds, isLive, isLiveChildOf, hasLiveChild, actions}
 use Rattle.rules.specs.Sound.{IsStarted}
-use Rattle.rules.specs.Event.{Event, commitCode, addCode, isStart, isRead, isWrite, isCommit, isAdd}
+use Rattle.rules.specs.Queue.{theQueue, queueLength, isQueued, isQueuedReady}
+use Rattle.rules.specs.Event.{Event, startCode, readCode, writeCode, commitCode, abortCode, addCode, enterCode, judgeCode, isStart, isRead, isWrite, isCommit, isAdd, isEnter, isJudge}
 use Rattle.rules.specs.Ledger.{Ledger}
 use Rattle.rules.specs.Nearest.{readSum}
 use Rattle.rules.specs.Clash.{firstClash}
 use Rattle.rules.specs.Cause.{commitSum, isCommitOutside, isReadOutside, inRead, inAdd, inCommit, sumsOf, areOutside}
-use Rattle.rules.specs.Step.{Outcome, start, read, write, judged, commit, add, abort, step}
-use Rattle.rules.proofs.Laws.Tests.{and-both, not-both, or-cases, or-inl, or-inr, not-fails, and-fails, or-fails, leb-holds, leb-fails}
+use Rattle.rules.specs.Step.{start, read, write, judged, commit, add, enter, judgeLeft, judge, abortLeft, abort, step, leaversAt}
+use Rattle.rules.proofs.Laws.Tests.{and-both, not-both, or-inl, or-inr, not-fails, and-fails, or-fails, leb-holds, leb-fails}
 use Rattle.rules.proofs.Laws.Ranges.{not-any-at}
 use Rattle.rules.proofs.Laws.Sets.{charge-within}
-use Rattle.rules.proofs.Laws.EventCases.{causeIn, AllowedIn, step-by-cause, act-by-kind, read-no-start, write-no-start, commit-no-start, add-no-start}
+use Rattle.rules.proofs.Laws.EventCases.{causeIn, AllowedIn, OfStep, step-by-cause, act-by-kind, no-start, no-judge-or-abort}
 
--- an action may start under p: p is the store or live, and there is a number left
+-- an action may start under p: p is the store or live and doesn't wait in the queue, and there is a number left
 pub record Startable (w : List ℕ) (p : ℕ) : Type 0 where
   pub known : p ≤ started w
   pub alive : 1 ≤ p → isLive w p ≡ true
   pub room : started w < mostActions
+  pub unqueued : isQueued w theQueue p ≡ false
 
--- n may read account k, and write it or add to it: it is live and has no live child
+-- n may read account k, and write it or add to it: it is live, has no live child and doesn't wait in the queue
 pub record Touchable (w : List ℕ) (n k : ℕ) : Type 0 where
   pub own : IsStarted w n
   pub alive : isLive w n ≡ true
   pub childless : hasLiveChild w n ≡ false
+  pub unqueued : isQueued w theQueue n ≡ false
   pub account : k < accountCount
 
--- n may be judged: it is live and has no live child
+-- n may commit, fail or enter the queue: it is live, has no live child and doesn't wait in the queue
 pub record Committable (w : List ℕ) (n : ℕ) : Type 0 where
   pub own : IsStarted w n
   pub alive : isLive w n ≡ true
   pub childless : hasLiveChild w n ≡ false
+  pub unqueued : isQueued w theQueue n ≡ false
+
+-- n's verdict may be revealed: it waits in the queue and isn't ready
+pub record Judgeable (w : List ℕ) (n : ℕ) : Type 0 where
+  pub own : IsStarted w n
+  pub queued : isQueued w theQueue n ≡ true
+  pub unready : isQueuedReady w theQueue n ≡ false
 
 -- n's add of this card's amount to charge account k adds no more than an event may, and the sums that it leaves are amounts
 pub record AddFits (w : List ℕ) (n k : ℕ) (card : List ℕ) : Type 0 where
@@ -63,36 +74,51 @@ sums-of-commit e is = rw (eqb-true (e .code) commitCode is)
 
 module _ {s : Ledger} {e : Event} (a : AllowedIn s e) where
   start-permitted : isStart e ≡ true → Startable (s .table) (e .number)
-  start-permitted is = record { known = a .early .numberKnown; alive = a .early .alive; room = a .early .room is }
+  start-permitted is =
+      record {
+        known = a .early .numberKnown;
+        alive = a .early .alive;
+        room = a .early .room is;
+        unqueued = a .early .unqueued (no-judge-or-abort e startCode is refl);
+      }
 
-  named-started : isStart e ≡ false → IsStarted (s .table) (e .number)
+  pub named-started : isStart e ≡ false → IsStarted (s .table) (e .number)
   named-started other = (a .early .named other, a .early .numberKnown)
 
   named-alive : isStart e ≡ false → isLive (s .table) (e .number) ≡ true
   named-alive other = a .early .alive (a .early .named other)
 
-  -- a read, a write or an add
-  touch-permitted : isStart e ≡ false → (isRead e || isWrite e || isAdd e) ≡ true → Touchable (s .table) (e .number) (e .account)
-  touch-permitted other used =
-      record {
-        own = named-started other;
-        alive = named-alive other;
-        childless =
-            ⊎-elim
-            (λ touches. a .early .childless (or-inl (isAdd e) (or-inl (isCommit e) touches)))
-            (λ adds. a .early .childless (or-inr (isRead e || isWrite e || isCommit e) adds))
-            (or-cases (isRead e || isWrite e) (isAdd e) used);
-        account = a .early .accountKnown used;
-      }
+  -- an event with this code, which asks that no child is live and that the action doesn't wait
+  module _
+      (code : ℕ) (is : eqb (e .code) code ≡ true) (other : eqb code startCode ≡ false)
+      (waits : (eqb code judgeCode || eqb code abortCode) ≡ false)
+      (asks : (isRead e || isWrite e || isCommit e || isAdd e || isEnter e) ≡ true) where
+    free-permitted : Committable (s .table) (e .number)
+    free-permitted =
+        let no = no-start e code is other in
+        record {
+          own = named-started no;
+          alive = named-alive no;
+          childless = a .early .childless asks;
+          unqueued = a .early .unqueued (no-judge-or-abort e code is waits);
+        }
 
-  commit-permitted : isCommit e ≡ true → Committable (s .table) (e .number)
-  commit-permitted is =
-      let other = commit-no-start e is in
-      record {
-        own = named-started other;
-        alive = named-alive other;
-        childless = a .early .childless (or-inl (isAdd e) (or-inr (isRead e || isWrite e) is));
-      }
+    -- a read, a write or an add
+    touch-permitted : (isRead e || isWrite e || isAdd e) ≡ true → Touchable (s .table) (e .number) (e .account)
+    touch-permitted used =
+        let free = free-permitted in
+        record {
+          own = free .own;
+          alive = free .alive;
+          childless = free .childless;
+          unqueued = free .unqueued;
+          account = a .early .accountKnown used;
+        }
+
+  pub judge-permitted : isJudge e ≡ true → Judgeable (s .table) (e .number)
+  judge-permitted is =
+      let (queued, unready) = a .early .judgeDue is in
+      record { own = named-started (no-start e judgeCode is refl); queued = queued; unready = unready }
 
   -- the sums that it makes, by its kind
   pub read-fits : isRead e ≡ true → isReadOutside (s .table) (s .base) (e .number) (e .account) ≡ false
@@ -116,32 +142,49 @@ module _ {s : Ledger} {e : Event} (a : AllowedIn s e) where
   add-charge is = (leb-holds firstCharge (e .account) .0 (a .early .chargeAdded is), a .early .accountKnown (or-inr (isRead e || isWrite e) is))
 
 -- What holds of a refused event, and of an event of each kind where it is permitted, holds of the event.
-module _ (s : Ledger) (e : Event) (P : Outcome → Type 0) where
+module _ (s : Ledger) (e : Event) (P : OfStep) where
   pub step-by-kind :
-      P (record { answer = Refused (causeIn s e); after = s }) →
-      (Startable (s .table) (e .number) → P (start s (e .number))) →
+      P (record { answer = Refused (causeIn s e); after = s }) [] →
+      (Startable (s .table) (e .number) → P (start s (e .number)) []) →
       (Touchable (s .table) (e .number) (e .account) → isReadOutside (s .table) (s .base) (e .number) (e .account) ≡ false →
-      P (read s (e .number) (e .account))) →
+      P (read s (e .number) (e .account)) []) →
       (Touchable (s .table) (e .number) (e .account) → IsCard (e .card) → e .account < firstCharge →
-      P (write s (e .number) (e .account) (e .card))) →
-      (Committable (s .table) (e .number) → (f : Found) → firstClash (s .table) (e .number) ≡ f →
-      isCommitOutside (s .table) (s .base) (e .number) f ≡ false → P (judged s (e .number) f)) →
+      P (write s (e .number) (e .account) (e .card)) []) →
+      (Committable (s .table) (e .number) → queueLength (s .table) theQueue ≡ 0 →
+      (f : Found) → firstClash (s .table) (e .number) ≡ f →
+      isCommitOutside (s .table) (s .base) (e .number) f ≡ false → P (judged s (e .number) f) []) →
       (Touchable (s .table) (e .number) (e .account) → IsCard (e .card) → IsCharge (e .account) →
-      AddFits (s .table) (e .number) (e .account) (e .card) → P (add s (e .number) (e .account) (e .card))) →
-      P (abort s (e .number)) → P (step s e)
+      AddFits (s .table) (e .number) (e .account) (e .card) → P (add s (e .number) (e .account) (e .card)) []) →
+      (Committable (s .table) (e .number) → P (enter s (e .number)) []) →
+      (Judgeable (s .table) (e .number) → P (judge s (e .number)) (judgeLeft s (e .number) .commits)) →
+      P (abort s (e .number)) (abortLeft s (e .number) .commits) →
+      P (step s e) (leaversAt s e)
   unfolding commit
-  step-by-kind refused starts reads writes judges adds aborts =
+  step-by-kind refused starts reads writes judges adds enters reveals aborts =
       step-by-cause s e P refused
-      (λ a. act-by-kind s e P
+      (λ a. act-by-kind s e P a
       (λ is. starts (start-permitted a is))
-      (λ is. reads (touch-permitted a (read-no-start e is) (or-inl (isAdd e) (or-inl (isWrite e) is))) (read-fits a is))
       (λ is.
-      writes (touch-permitted a (write-no-start e is) (or-inl (isAdd e) (or-inr (isRead e) is)))
+      reads
+      (touch-permitted a readCode is refl refl
+      (or-inl (isEnter e) (or-inl (isAdd e) (or-inl (isCommit e) (or-inl (isWrite e) is)))) (or-inl (isAdd e) (or-inl (isWrite e) is)))
+      (read-fits a is))
+      (λ is.
+      writes
+      (touch-permitted a writeCode is refl refl
+      (or-inl (isEnter e) (or-inl (isAdd e) (or-inl (isCommit e) (or-inr (isRead e) is)))) (or-inl (isAdd e) (or-inr (isRead e) is)))
       (a .early .cardFits (or-inl (isAdd e) is)) (write-below a is))
-      (λ is. judges (commit-permitted a is) (firstClash (s .table) (e .number)) refl (commit-fits a is))
       (λ is.
-      adds (touch-permitted a (add-no-start e is) (or-inr (isRead e || isWrite e) is))
+      judges
+      (free-permitted a commitCode is refl refl (or-inl (isEnter e) (or-inl (isAdd e) (or-inr (isRead e || isWrite e) is))))
+      (a .early .queueEmpty is) (firstClash (s .table) (e .number)) refl (commit-fits a is))
+      (λ is.
+      adds
+      (touch-permitted a addCode is refl refl
+      (or-inl (isEnter e) (or-inr (isRead e || isWrite e || isCommit e) is)) (or-inr (isRead e || isWrite e) is))
       (a .early .cardFits (or-inr (isWrite e) is)) (add-charge a is) (add-fits a is))
+      (λ is. enters (free-permitted a enterCode is refl refl (or-inr (isRead e || isWrite e || isCommit e || isAdd e) is)))
+      (λ is. reveals (judge-permitted a is))
       (λ _. aborts))
 
 -- ---- RULES 8.1: sums that aren't outside 64 signed bits

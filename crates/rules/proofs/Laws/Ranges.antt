@@ -7,9 +7,10 @@ use native.Mathlib.Decide.{ℕ-discrete}
 use mathlib.Core.Path.{_≡_, refl, sym, ap, ap₂, _∙_}
 use mathlib.Core.Logic.{_⊎_, inl, inr, ⊎-elim, _≢_}
 use mathlib.Core.Bool.{Bool, true, false, cond, _||_, false≢true}
-use mathlib.Core.List.{List, [], _∷_, _++_, List·Memᴰ, List·Memᴰ·head, List·Memᴰ·tail, List·Memᴰ·not-nil, List·Memᴰ·cases-cons}
+use mathlib.Core.List.{List, [], _∷_, map, List·Memᴰ, List·Memᴰ·head, List·Memᴰ·tail, List·Memᴰ·not-nil, List·Memᴰ·cases-cons}
+use lib.ListN.{length}
 use Rattle.rules.specs.Range.{upFrom, any, all, count, filter, fold}
-use Rattle.rules.proofs.Laws.Tests.{and-left, and-right, and-both, or-cases, or-inl, or-inr, or-neither, cond-holds}
+use Rattle.rules.proofs.Laws.Tests.{and-left, and-right, and-both, or-inl, or-inr, or-neither, cond-holds}
 
 -- x is one of the n numbers from a on
 abbrev pub Within : ℕ → ℕ → ℕ → Type 0
@@ -50,16 +51,6 @@ not-any f a zero h = refl
 not-any f a (suc n) h =
     rw (h a (first-within a n)) (not-any f (suc a) n (λ x r. h x (rest-within a n x r)))
 
--- where f holds of one of them, this one is at hand
-pub any-found : (f : ℕ → Bool) (a n : ℕ) → any f (upFrom a n) ≡ true → (x : ℕ) × Within a n x × (f x ≡ true)
-unfolding any upFrom
-any-found f a zero p = absurd (false≢true p)
-any-found f a (suc n) p =
-    ⊎-elim
-    (λ e. (a, first-within a n, e))
-    (λ r. let found = any-found f (suc a) n r in (found .0, rest-within a n (found .0) (found .1), found .2))
-    (or-cases (f a) (any f (upFrom (suc a) n)) p)
-
 -- ---- all: f holds of each
 
 pub all-at : (f : ℕ → Bool) (a n x : ℕ) → all f (upFrom a n) ≡ true → Within a n x → f x ≡ true
@@ -91,11 +82,16 @@ count-agree f g a zero h = refl
 count-agree f g a (suc n) h =
     rw (h a (first-within a n), count-agree f g (suc a) n (λ x r. h x (rest-within a n x r)))
 
-pub filter-agree : (f g : ℕ → Bool) (a n : ℕ) → ((x : ℕ) → Within a n x → f x ≡ g x) → filter f (upFrom a n) ≡ filter g (upFrom a n)
-unfolding filter upFrom
-filter-agree f g a zero h = refl
-filter-agree f g a (suc n) h =
-    rw (h a (first-within a n), filter-agree f g (suc a) n (λ x r. h x (rest-within a n x r)))
+pub map-agree :
+    {A : Type 0} (f g : ℕ → A) (a n : ℕ) → ((x : ℕ) → Within a n x → f x ≡ g x) → map f (upFrom a n) ≡ map g (upFrom a n)
+unfolding upFrom
+map-agree f g a zero h = refl
+map-agree f g a (suc n) h = ap₂ _∷_ (h a (first-within a n)) (map-agree f g (suc a) n (λ x r. h x (rest-within a n x r)))
+
+pub length-upFrom : (a n : ℕ) → length (upFrom a n) ≡ n
+unfolding upFrom
+length-upFrom a zero = refl
+length-upFrom a (suc n) = ap suc (length-upFrom (suc a) n)
 
 -- ---- keep: those of which f holds
 
@@ -200,12 +196,6 @@ count-some f (x ∷ xs) p =
     cond-holds (λ c. 1 ≤ c) (f x)
     (λ q. omega arith)
     (λ q. count-some f xs (rw q at p))
-
--- one number more at the end of the run
-pub upFrom-snoc : (a n : ℕ) → upFrom a (suc n) ≡ upFrom a n ++ ((a + n) ∷ [])
-unfolding upFrom
-upFrom-snoc a zero = rw add-zero
-upFrom-snoc a (suc n) = ap (λ l. a ∷ l) (rw (upFrom-snoc (suc a) n, add-suc a n, ← suc-add a n))
 
 pub count-snoc : (f : ℕ → Bool) (a n : ℕ) → count f (upFrom a (suc n)) ≡ count f (upFrom a n) + count f ((a + n) ∷ [])
 unfolding count upFrom

@@ -7,7 +7,7 @@ use mathlib.Core.List.{List}
 use lib.ListN.{length}
 use Rattle.rules.specs.Range.{upFrom}
 use Rattle.rules.specs.Card.{accountCount, accounts, firstCharge, chargeCount, IsCharge, chargeAccounts}
-use Rattle.rules.specs.Table.{width, tableLength, word, withFields, readFields, readField, readEntry, writeField, writeEntry, pendingField, pendingWord, ownAddsField, ownAddsWord, withoutAdds, withSets, mostActions}
+use Rattle.rules.specs.Table.{actionWidth, width, tableLength, word, withFields, readFields, readField, readEntry, writeField, writeEntry, pendingField, pendingWord, ownAddsField, ownAddsWord, withoutAdds, withSets, mostActions}
 use Rattle.rules.proofs.Laws.Ranges.{Within}
 use Rattle.rules.proofs.Laws.Fields.{withFields-length, withFields-other-row, withFields-other-field, withFields-same}
 
@@ -42,13 +42,13 @@ module _ (w : List ℕ) (n : ℕ) (reads writes sums : ℕ → ℕ) where
       ∙ withFields-other-field _ n writeField 0 accountCount _ g (λ k h z. omega arith)
       ∙ withFields-other-field w n readField 0 accountCount _ g (λ k h z. omega arith)
 
-  -- own adds
-  pub withSets-own-adds : (k : ℕ) → IsCharge k → ownAddsWord (withSets w n reads writes sums) n k ≡ ownAddsWord w n k
+  -- what stands behind them: own adds, and the queue's words
+  pub withSets-behind : (g : ℕ) → ownAddsField firstCharge ≤ g → word (withSets w n reads writes sums) n g ≡ word w n g
   unfolding withSets accounts chargeAccounts
-  withSets-own-adds k charge =
-      withFields-other-field _ n pendingField firstCharge chargeCount _ (ownAddsField k) (λ j h z. omega arith)
-      ∙ withFields-other-field _ n writeField 0 accountCount _ (ownAddsField k) (λ j h z. omega arith)
-      ∙ withFields-other-field w n readField 0 accountCount _ (ownAddsField k) (λ j h z. omega arith)
+  withSets-behind g far =
+      withFields-other-field _ n pendingField firstCharge chargeCount _ g (λ j h z. omega arith)
+      ∙ withFields-other-field _ n writeField 0 accountCount _ g (λ j h z. omega arith)
+      ∙ withFields-other-field w n readField 0 accountCount _ g (λ j h z. omega arith)
 
   module _ (long : length w ≡ tableLength) (few : n ≤ mostActions) where
     with-reads : length (withFields w n readField (upFrom 0 accountCount) reads) ≡ tableLength
@@ -92,6 +92,11 @@ module _ (w : List ℕ) (n : ℕ) where
   pub withoutAdds-other-field : (g : ℕ) → g < readFields → word (withoutAdds w n) n g ≡ word w n g
   unfolding withoutAdds chargeAccounts
   withoutAdds-other-field g hg = withFields-other-field w n ownAddsField firstCharge chargeCount _ g (λ k h z. omega arith)
+
+  -- what stands behind them: the queue's words
+  pub withoutAdds-behind : (g : ℕ) → actionWidth ≤ g → word (withoutAdds w n) n g ≡ word w n g
+  unfolding withoutAdds chargeAccounts
+  withoutAdds-behind g far = withFields-other-field w n ownAddsField firstCharge chargeCount _ g (λ k h z. omega arith)
 
   pub withoutAdds-same :
       length w ≡ tableLength → n ≤ mostActions → (k : ℕ) → IsCharge k → ownAddsWord (withoutAdds w n) n k ≡ 0

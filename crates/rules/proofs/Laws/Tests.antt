@@ -37,6 +37,10 @@ pub or-inr : (a : Bool) {b : Bool} → b ≡ true → (a || b) ≡ true
 or-inr true p = refl
 or-inr false p = p
 
+pub or-false : (a : Bool) → (a || false) ≡ a
+or-false true = refl
+or-false false = refl
+
 pub or-neither : (a b : Bool) → (a || b) ≡ false → (a ≡ false) × (b ≡ false)
 or-neither true b h = absurd (true≢false h)
 or-neither false b h = (refl, h)

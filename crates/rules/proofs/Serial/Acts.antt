@@ -12,7 +12,7 @@ use Rattle.rules.specs.Amount.{amountIn}
 use Rattle.rules.specs.Event.{Event}
 use Rattle.rules.specs.Serial.Effect.{Effect, puts, adds}
 use Rattle.rules.specs.Serial.Block.{Block, empty, read, write, child}
-use Rattle.rules.specs.Serial.Told.{Told, itBegan, itRead, itWrote, itAdded, itCommitted, itDidNothing}
+use Rattle.rules.specs.Serial.Told.{Told, itBegan, itRead, itWrote, itAdded, itCommitted, itLetLeave, itDidNothing}
 use Rattle.rules.specs.Serial.Schedule.{Operation, begins, reads, writes, ends, scheduleOf}
 use Rattle.rules.specs.Serial.Reach.{Act, actOf, innermost, actsIn, atPlace}
 
@@ -73,6 +73,7 @@ act-cases P j e itWrote no-act act = act (some (puts (e .card)))
 act-cases P j e itAdded no-act act = act (some (adds (amountIn (e .card))))
 act-cases P j e (itBegan n) no-act act = no-act
 act-cases P j e itCommitted no-act act = no-act
+act-cases P j e (itLetLeave leavers) no-act act = no-act
 act-cases P j e itDidNothing no-act act = no-act
 
 pub act-there : (i : ℕ) (e : Event) (it : Told) → atPlace i (actOf i e it) ≡ actOf i e it

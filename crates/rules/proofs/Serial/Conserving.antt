@@ -9,12 +9,12 @@ use mathlib.Core.List.{List, [], _∷_, _++_}
 use lib.Dec.{eqb}
 use lib.IntN.{ℤ, pos, _+ℤ_, +ℤ-idr, +ℤ-assoc}
 use borrow.Author.Tests.{eq-eqb, ne-eqb}
-use Rattle.rules.specs.declared.Answer.{Answer}
 use Rattle.rules.specs.Card.{IsCharge, basePlace, cardAt}
 use Rattle.rules.specs.Amount.{baseAmount}
 use Rattle.rules.specs.Event.{Event}
 use Rattle.rules.specs.Serial.Effect.{Effect, nothing, puts, adds, lay, sumOver}
 use Rattle.rules.specs.Serial.Block.{Block, empty, read, write, child}
+use Rattle.rules.specs.Serial.Told.{Told}
 use Rattle.rules.specs.Serial.Collect.{storeBlock}
 use Rattle.rules.specs.Serial.Reach.{Act, actsOfR}
 use Rattle.rules.specs.Serial.Conserved.{addedBy, addedTo}
@@ -107,18 +107,18 @@ module _ (k : ℕ) where
 
 -- ---- the store's block
 
-module _ (es : List Event) (answers : List Answer) (whole : Whole (storeBlock es answers)) {k : ℕ} (account : IsCharge k) where
+module _ (es : List Event) (its : List Told) (whole : Whole (storeBlock es its)) {k : ℕ} (account : IsCharge k) where
   pub store-adds :
-      (z : ℤ) → sumOver (own accountValues (storeBlock es answers) k) z ≡ z +ℤ addedTo k (actsOfR 0 (λ n. 0) es answers)
+      (z : ℤ) → sumOver (own accountValues (storeBlock es its) k) z ≡ z +ℤ addedTo k (actsOfR 0 (λ n. 0) es its)
   store-adds z =
-      own-adds k account 0 (storeBlock es answers) whole z
+      own-adds k account 0 (storeBlock es its) whole z
       ∙ ap (λ sum. z +ℤ sum)
-      (same-added k (actsOf 0 (storeBlock es answers)) (actsOfR 0 (λ n. 0) es answers)
-      (λ i. rw (← (store-steps-acts (storeBlock es answers))) (exact-acts es answers i)))
+      (same-added k (actsOf 0 (storeBlock es its)) (actsOfR 0 (λ n. 0) es its)
+      (λ i. rw (← (store-steps-acts (storeBlock es its))) (exact-acts es its i)))
 
   -- two base stores of which the second shows what the store's block leaves on the first
   pub store-conserves :
-      (base final : List ℕ) → after accountValues (storeBlock es answers) (shownBase base) k ≡ shownBase final k →
-      baseAmount final k ≡ baseAmount base k +ℤ addedTo k (actsOfR 0 (λ n. 0) es answers)
+      (base final : List ℕ) → after accountValues (storeBlock es its) (shownBase base) k ≡ shownBase final k →
+      baseAmount final k ≡ baseAmount base k +ℤ addedTo k (actsOfR 0 (λ n. 0) es its)
   store-conserves base final leaves =
-      amount-left account (own-whole (storeBlock es answers) whole k) base final leaves ∙ store-adds (baseAmount base k)
+      amount-left account (own-whole (storeBlock es its) whole k) base final leaves ∙ store-adds (baseAmount base k)

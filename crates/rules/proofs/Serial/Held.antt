@@ -11,7 +11,7 @@ use borrow.Author.Tests.{eqb-true, eqb-false}
 use Rattle.rules.specs.Event.{Event}
 use Rattle.rules.specs.Serial.Effect.{Effect}
 use Rattle.rules.specs.Serial.Block.{Block, empty}
-use Rattle.rules.specs.Serial.Told.{Told, itBegan, itRead, itWrote, itAdded, itCommitted, itDidNothing}
+use Rattle.rules.specs.Serial.Told.{Told, itBegan, itRead, itWrote, itAdded, itCommitted, itLetLeave, itDidNothing}
 use Rattle.rules.specs.Serial.Collect.{put, Known, begun, laid, commitsAt, laidAll, stepped, collectOne, unknown}
 use Rattle.rules.specs.Serial.Reach.{Act, actOf, atPlace, parentsAfter, isGivenTo, movedUp}
 use Rattle.rules.proofs.Laws.Tests.{cond-holds, cond-same}
@@ -126,6 +126,7 @@ stepped-parent j e itRead c = refl
 stepped-parent j e itWrote c = refl
 stepped-parent j e itAdded c = refl
 stepped-parent j e itCommitted c = refl
+stepped-parent j e (itLetLeave leavers) c = refl
 stepped-parent j e itDidNothing c = refl
 
 laidAll-parent : (j : ℕ) (c : Known) (ns : List ℕ) → laidAll j c ns .parent ≡ c .parent
@@ -145,6 +146,7 @@ stepped-held {i} j e itRead c not-here held = same-held held (e .number) _ (none
 stepped-held {i} j e itWrote c not-here held = same-held held (e .number) _ (none-behind i _ _ not-here)
 stepped-held {i} j e itAdded c not-here held = same-held held (e .number) _ (none-behind i _ _ not-here)
 stepped-held j e itCommitted c not-here held = held
+stepped-held j e (itLetLeave leavers) c not-here held = held
 stepped-held j e itDidNothing c not-here held = held
 
 module _ (j : ℕ) (e : Event) (it : Told) (c : Known) where
@@ -181,4 +183,6 @@ own-held-after {i} e (itBegan n) c clear =
     any-holder (none-after i e (itBegan n) c (act-there i e (itBegan n)) clear) (e .number)
 own-held-after {i} e itCommitted c clear =
     any-holder (none-after i e itCommitted c (act-there i e itCommitted) clear) (e .number)
+own-held-after {i} e (itLetLeave leavers) c clear =
+    any-holder (none-after i e (itLetLeave leavers) c (act-there i e (itLetLeave leavers)) clear) (e .number)
 own-held-after e itDidNothing c clear = any-holder clear (e .number)

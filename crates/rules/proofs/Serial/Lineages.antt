@@ -1,23 +1,19 @@
--- A lineage and its R, whatever the events and the answers that it was made from: numbers stand for starts that were, parents
--- are older, and the rule of R holds of just one choice of starts. Assumes nothing.
+-- A lineage and its R, whatever the events and what was told of them: numbers stand for starts that were, parents are older,
+-- and the rule of R holds of just one choice of starts. Assumes nothing.
 use Prim.Native.Nat.{ℕ, zero, suc, _≤_, _<_}
 use native.Mathlib.Nat.{le-refl}
 use native.Mathlib.Omega.{arith}
 use native.Mathlib.Decide.{ℕ-discrete}
 use mathlib.Core.Path.{_≡_, refl, sym, _∙_}
-use mathlib.Core.Logic.{_⊎_, inl, inr, ⊎-elim, _≢_}
-use mathlib.Core.Bool.{Bool, true, false, _&&_, false≢true}
+use mathlib.Core.Logic.{_⊎_, inl, inr, ⊎-elim}
+use mathlib.Core.Bool.{Bool, true, false, _&&_}
 use mathlib.Core.List.{List, [], _∷_}
-use lib.Dec.{eqb}
-use borrow.Author.Tests.{eqb-true, eqb-false, eq-eqb}
-use Rattle.rules.specs.declared.Answer.{Answer}
 use Rattle.rules.specs.Event.{Event}
-use Rattle.rules.specs.Serial.Told.{Told, itBegan, itRead, itWrote, itAdded, itCommitted, itDidNothing, told}
+use Rattle.rules.specs.Serial.Told.{Told, itBegan, itRead, itWrote, itAdded, itCommitted, itLetLeave, itDidNothing}
 use Rattle.rules.specs.Serial.Collect.{commitsAt}
-use Rattle.rules.specs.Serial.Reach.{isGivenTo}
 use Rattle.rules.specs.Serial.Starts.{Lineage, noStarts, withStart, withCommit, withCommits, withStartAt, lineageOne, lineageFrom, isInR, IsR}
 use Rattle.rules.proofs.Laws.Tests.{same-test, and-holds}
-use Rattle.rules.proofs.Laws.Puts.{put-there, put-elsewhere, put-holds}
+use Rattle.rules.proofs.Laws.Puts.{put-elsewhere, put-holds}
 use Rattle.rules.proofs.Laws.Climbing.{falling-climbs}
 use Rattle.rules.proofs.Laws.Walking.{walk-store, walk-step}
 
@@ -44,7 +40,7 @@ pub record Extends (h h′ : Lineage) : Type 0 where
   pub parents : (x : ℕ) → x ≤ h .starts → h′ .parentStart x ≡ h .parentStart x
   pub commits : (x : ℕ) → h .hasCommitted x ≡ true → h′ .hasCommitted x ≡ true
 
-extends-itself : (h : Lineage) → Extends h h
+pub extends-itself : (h : Lineage) → Extends h h
 extends-itself h = record { noFewer = le-refl (h .starts); parents = λ x begun. refl; commits = λ x done. done }
 
 pub extends-further : {h h′ h″ : Lineage} → Extends h h′ → Extends h′ h″ → Extends h h″
@@ -55,7 +51,7 @@ extends-further f g =
       commits = λ x done. g .commits x (f .commits x done);
     }
 
--- ---- event by event
+-- ---- a start, a commit
 
 module _ {h : Lineage} (o : Ordered h) where
   pub start-ordered : (n p : ℕ) → Ordered (withStart h n p)
@@ -81,7 +77,7 @@ module _ {h : Lineage} (o : Ordered h) where
       }
 
 module _ (h : Lineage) where
-  start-extends : (n p : ℕ) → Extends h (withStart h n p)
+  pub start-extends : (n p : ℕ) → Extends h (withStart h n p)
   start-extends n p =
       record {
         noFewer = omega arith;
@@ -89,7 +85,7 @@ module _ (h : Lineage) where
         commits = λ x done. done;
       }
 
-  commit-extends : (n : ℕ) → Extends h (withCommit h n)
+  pub commit-extends : (n : ℕ) → Extends h (withCommit h n)
   commit-extends n =
       record {
         noFewer = le-refl (h .starts);
@@ -99,15 +95,17 @@ module _ (h : Lineage) where
             (λ _. refl) (λ x _ done. done);
       }
 
+-- ---- event by event
+
 commits-ordered : {h : Lineage} → Ordered h → (ns : List ℕ) → Ordered (withCommits h ns)
 unfolding withCommits
 commits-ordered o [] = o
 commits-ordered o (n ∷ ns) = commits-ordered (commit-ordered o n) ns
 
-commits-extend : (h : Lineage) (ns : List ℕ) → Extends h (withCommits h ns)
+pub commits-keep-starts : (h : Lineage) (ns : List ℕ) → withCommits h ns .starts ≡ h .starts
 unfolding withCommits
-commits-extend h [] = extends-itself h
-commits-extend h (n ∷ ns) = extends-further (commit-extends h n) (commits-extend (withCommit h n) ns)
+commits-keep-starts h [] = refl
+commits-keep-starts h (n ∷ ns) = commits-keep-starts (withCommit h n) ns
 
 startAt-ordered : {h : Lineage} → Ordered h → (e : Event) (it : Told) → Ordered (withStartAt e it h)
 unfolding withStartAt
@@ -116,94 +114,18 @@ startAt-ordered o e itRead = o
 startAt-ordered o e itWrote = o
 startAt-ordered o e itAdded = o
 startAt-ordered o e itCommitted = o
+startAt-ordered o e (itLetLeave leavers) = o
 startAt-ordered o e itDidNothing = o
 
-startAt-extends : (h : Lineage) (e : Event) (it : Told) → Extends h (withStartAt e it h)
-unfolding withStartAt
-startAt-extends h e (itBegan n) = start-extends h n (e .number)
-startAt-extends h e itRead = extends-itself h
-startAt-extends h e itWrote = extends-itself h
-startAt-extends h e itAdded = extends-itself h
-startAt-extends h e itCommitted = extends-itself h
-startAt-extends h e itDidNothing = extends-itself h
-
-pub one-ordered : {h : Lineage} → Ordered h → (e : Event) (it : Told) → Ordered (lineageOne e it h)
+one-ordered : {h : Lineage} → Ordered h → (e : Event) (it : Told) → Ordered (lineageOne e it h)
 unfolding lineageOne
 one-ordered o e it = commits-ordered (startAt-ordered o e it) (commitsAt e it)
 
-pub one-extends : (h : Lineage) (e : Event) (it : Told) → Extends h (lineageOne e it h)
-unfolding lineageOne
-one-extends h e it = extends-further (startAt-extends h e it) (commits-extend (withStartAt e it h) (commitsAt e it))
-
-pub from-ordered : {h : Lineage} → Ordered h → (es : List Event) (answers : List Answer) → Ordered (lineageFrom es answers h)
+pub from-ordered : {h : Lineage} → Ordered h → (es : List Event) (its : List Told) → Ordered (lineageFrom es its h)
 unfolding lineageFrom
-from-ordered o [] answers = o
+from-ordered o [] its = o
 from-ordered o (e ∷ es) [] = o
-from-ordered o (e ∷ es) (a ∷ answers) = from-ordered (one-ordered o e (told a)) es answers
-
-pub from-extends : (h : Lineage) (es : List Event) (answers : List Answer) → Extends h (lineageFrom es answers h)
-unfolding lineageFrom
-from-extends h [] answers = extends-itself h
-from-extends h (e ∷ es) [] = extends-itself h
-from-extends h (e ∷ es) (a ∷ answers) =
-    extends-further (one-extends h e (told a)) (from-extends (lineageOne e (told a) h) es answers)
-
--- ---- one event: whose start a number stands for, and who has committed
-
--- number n's action commits there
-unfoldable pub commitsHere : Event → Told → ℕ → Bool
-commitsHere e itCommitted n = eqb n (e .number)
-commitsHere e (itBegan m) n = false
-commitsHere e itRead n = false
-commitsHere e itWrote n = false
-commitsHere e itAdded n = false
-commitsHere e itDidNothing n = false
-
-module _ (h : Lineage) (e : Event) where
-  abbrev after : Told → Lineage
-  after it = lineageOne e it h
-
-  -- a number that isn't given keeps its start
-  pub start-kept : (it : Told) (n : ℕ) → isGivenTo it n ≡ false → after it .startOf n ≡ h .startOf n
-  unfolding lineageOne withStartAt commitsAt withCommits isGivenTo
-  start-kept (itBegan m) n other = put-elsewhere (h .startOf) m _ n (eqb-false n m other)
-  start-kept itRead n other = refl
-  start-kept itWrote n other = refl
-  start-kept itAdded n other = refl
-  start-kept itCommitted n other = refl
-  start-kept itDidNothing n other = refl
-
-  -- one that is given has the next
-  pub start-given : (it : Told) (n : ℕ) → isGivenTo it n ≡ true → after it .startOf n ≡ suc (h .starts)
-  unfolding lineageOne withStartAt commitsAt withCommits isGivenTo
-  start-given (itBegan m) n same = rw (eqb-true n m same) (put-there (h .startOf) m _)
-  start-given itRead n same = absurd (false≢true same)
-  start-given itWrote n same = absurd (false≢true same)
-  start-given itAdded n same = absurd (false≢true same)
-  start-given itCommitted n same = absurd (false≢true same)
-  start-given itDidNothing n same = absurd (false≢true same)
-
-  pub commit-told : (it : Told) (n : ℕ) → commitsHere e it n ≡ true → after it .hasCommitted (h .startOf n) ≡ true
-  unfolding lineageOne withStartAt commitsAt withCommits commitsHere
-  commit-told itCommitted n same = rw (eqb-true n (e .number) same) (put-there (h .hasCommitted) _ true)
-  commit-told (itBegan m) n same = absurd (false≢true same)
-  commit-told itRead n same = absurd (false≢true same)
-  commit-told itWrote n same = absurd (false≢true same)
-  commit-told itAdded n same = absurd (false≢true same)
-  commit-told itDidNothing n same = absurd (false≢true same)
-
-  -- a start that nobody has who commits there
-  pub no-commit-told :
-      (it : Told) (x : ℕ) → ((n : ℕ) → commitsHere e it n ≡ true → h .startOf n ≢ x) →
-      after it .hasCommitted x ≡ h .hasCommitted x
-  unfolding lineageOne withStartAt commitsAt withCommits commitsHere
-  no-commit-told itCommitted x others =
-      put-elsewhere (h .hasCommitted) _ true x (λ same. others (e .number) (eq-eqb (e .number) _ refl) (sym same))
-  no-commit-told (itBegan m) x others = refl
-  no-commit-told itRead x others = refl
-  no-commit-told itWrote x others = refl
-  no-commit-told itAdded x others = refl
-  no-commit-told itDidNothing x others = refl
+from-ordered o (e ∷ es) (it ∷ its) = from-ordered (one-ordered o e it) es its
 
 -- ---- R
 

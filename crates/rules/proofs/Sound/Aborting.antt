@@ -4,7 +4,7 @@ use Prim.Native.Nat.{ℕ, _≤_, _<_}
 use native.Mathlib.Nat.{le-of-eq}
 use native.Mathlib.Omega.{arith}
 use mathlib.Core.Path.{_≡_, refl, sym, ap, ap₂, _∙_}
-use mathlib.Core.Logic.{inl, _≢_}
+use mathlib.Core.Logic.{inl, inr, _≢_}
 use mathlib.Core.Bool.{Bool, true, false, not, cond, _&&_, _||_}
 use mathlib.Core.List.{List}
 use borrow.Author.Tests.{eqb-true, not-true}
@@ -14,14 +14,17 @@ use Rattle.rules.specs.declared.Answer.the-variants.{Aborted}
 use Rattle.rules.specs.Range.{count}
 use Rattle.rules.specs.Card.{accountCount}
 use Rattle.rules.specs.Table.{hasEnd, width, live, committed, aborted, word, startedField, started, counterField, counter, parentField, parentOf, stateField, stateOf, endField, readField, readEntry, hasRead, readTime, writeField, pendingField, isLive, isCommitted, actions}
-use Rattle.rules.specs.Walk.{isAtOrBelow}
+use Rattle.rules.specs.Walk.{isAtOrBelow, isAbortedBy}
+use Rattle.rules.specs.Queue.{theQueue, queueLengthField, isQueued, withoutBelow}
 use Rattle.rules.specs.Sound.{hasState, IsStarted, Sound}
 use Rattle.rules.specs.Ledger.{Ledger}
-use Rattle.rules.specs.Step.{isAbortedBy, abortTable, abort}
+use Rattle.rules.specs.Step.{abortTable, dropped, abortLeft, abort}
 use Rattle.rules.proofs.Laws.Tests.{and-left, and-right, and-both, cond-holds}
 use Rattle.rules.proofs.Laws.Ranges.{count-some, any-at, count-agree}
 use Rattle.rules.proofs.Laws.RowPass.{pass-length, pass-other-field, pass-other-row, pass-field}
-use Rattle.rules.proofs.Sound.TableChanges.{TableChange, sum-stays, writes-agree}
+use Rattle.rules.proofs.Laws.Queue.{SameLine}
+use Rattle.rules.proofs.Sound.TableChanges.{TableChange, change-keeps-sound, sum-stays, line-stays, writes-agree}
+use Rattle.rules.proofs.Sound.QueueChanges.{without-keeps, without-change, same-reach}
 use Rattle.rules.proofs.Laws.Walking.{parent-known, sound-climbs, atOrBelow-itself, notBelow-parent}
 
 -- ---- the table after an abort of n
@@ -109,8 +112,23 @@ module _ (w : List ℕ) (n : ℕ) where
         let entry : readEntry (abortTable w n) m k ≡ readEntry w m k = abort-keeps-field m (readField k) (omega arith) (λ z. omega arith) in
         rw (entry, counter-kept) (s .reads m k h (was-live m h l) hk (rw entry at r))
 
-    pub abort-change : TableChange w (abortTable w n) n
-    abort-change =
+    pub abort-line : SameLine w (abortTable w n) theQueue
+    abort-line =
+        record {
+          sameLength = abort-keeps-field 0 (queueLengthField theQueue) (omega arith) (λ z. omega arith);
+          sameEntries = λ i g _ behind inside. abort-keeps-field i g inside (λ z. omega arith);
+        }
+
+    -- whoever waits and isn't reached stays live
+    waiting-left :
+        ((m : ℕ) → isQueued w theQueue m ≡ true → isAbortedBy w n m ≡ false) → (m : ℕ) → isQueued w theQueue m ≡ true →
+        isLive (abortTable w n) m ≡ true
+    waiting-left spared m queued =
+        let may = s .line .waits m queued in
+        rw (abort-state m (may .begun), spared m queued) (may .alive)
+
+    pub abort-change : ((m : ℕ) → isQueued w theQueue m ≡ true → isAbortedBy w n m ≡ false) → TableChange w (abortTable w n) n
+    abort-change spared =
         record {
           long = abort-length ∙ s .long;
           sameStarted = started-kept;
@@ -126,6 +144,9 @@ module _ (w : List ℕ) (n : ℕ) where
               λ m k h charge.
               sum-stays w (abortTable w n) m k (abort-keeps-field m (writeField k) (omega arith) (λ z. omega arith))
               (abort-keeps-field m (pendingField k) (omega arith) (λ z. omega arith));
+          line =
+              line-stays w (abortTable w n) s abort-line started-kept
+              (λ m h. abort-keeps-field m parentField (omega arith) (λ z. omega arith)) was-live (waiting-left spared);
         }
 
     -- ---- RULES 2.6: the count of the answer
@@ -145,10 +166,24 @@ module _ (w : List ℕ) (n : ℕ) where
         reached true false e = rw (eqb-true (stateOf w m) live e)
         reached false b e = refl
 
--- the answer's number is that of the actions which were live and are aborted afterwards
-pub abort-counts :
-    (s : Ledger) (n : ℕ) → Sound (s .table) →
-    (abort s n) .answer ≡ Aborted (count (becameAborted (s .table) ((abort s n) .after .table)) (actions (s .table)))
-unfolding abort actions
-abort-counts s n sound =
-    ap Aborted (count-agree _ _ 1 (started (s .table)) (λ m r. reached-became-aborted (s .table) n sound m (omega arith)))
+-- the answer's first number is that of the actions which were live and are aborted before the head is tried
+module _ (s : Ledger) (n : ℕ) (sound : Sound (s .table)) where
+  -- those who wait and are reached have been taken out, by a change of the queue alone
+  abbrev out : List ℕ
+  out = withoutBelow (s .table) theQueue n
+
+  dropped-aborted : (m : ℕ) → IsStarted (s .table) m → isAbortedBy (s .table) n m ≡ becameAborted (s .table) (abortTable out n) m
+  dropped-aborted m h =
+      let kept = without-keeps sound n in
+      sym (same-reach sound n m)
+      ∙ reached-became-aborted out n (change-keeps-sound _ _ n sound (without-change sound n n)) m
+      (rw (kept 0 startedField (omega arith) (inr (λ z. omega arith))) h)
+      ∙ rw (kept m stateField (omega arith) (inr (λ z. omega arith)))
+
+  pub abort-counts :
+      abort s n .answer
+      ≡ Aborted (count (becameAborted (s .table) (dropped s n .table)) (actions (s .table))) (abortLeft s n .many)
+  unfolding abort dropped actions
+  abort-counts =
+      ap (λ c. Aborted c (abortLeft s n .many))
+      (count-agree _ _ 1 (started (s .table)) (λ m r. dropped-aborted m (omega arith)))

@@ -1,7 +1,7 @@
 -- An add's table: a live action's write entry, pending sum and own adds for one charge account change, and the table stays
 -- sound.
 -- Assumes nothing.
-use Prim.Native.Nat.{ℕ, _<_}
+use Prim.Native.Nat.{ℕ, _≤_, _<_}
 use native.Mathlib.Omega.{arith}
 use mathlib.Core.Path.{_≡_, _∙_}
 use mathlib.Core.Logic.{_≢_}
@@ -11,7 +11,7 @@ use lib.IntN.{ℤ, _+ℤ_}
 use lib.ListN.{length}
 use Rattle.rules.specs.Card.{firstCharge, IsCharge}
 use Rattle.rules.specs.Amount.{amountWord}
-use Rattle.rules.specs.Table.{width, word, writeField, writeEntry, withWrite, entered, pendingField, pendingWord, withPending, pendingSum, ownAddsField, ownAddsWord, ownAdds, isLive}
+use Rattle.rules.specs.Table.{actionWidth, width, word, writeField, writeEntry, withWrite, entered, pendingField, pendingWord, withPending, pendingSum, ownAddsField, ownAddsWord, ownAdds, isLive}
 use Rattle.rules.specs.Sound.{IsStarted, Sound}
 use Rattle.rules.specs.Step.{addTable}
 use Rattle.rules.proofs.Laws.Words.{withWord-length, word-same, word-other-field, word-off-field, word-other-row}
@@ -45,6 +45,14 @@ module _
       word-off-field summed n m (ownAddsField k) g _ (omega arith) (omega arith) (λ z. omega arith)
       ∙ word-off-field marked n m (pendingField k) g _ (omega arith) (omega arith) off-sum
       ∙ word-off-field w n m (writeField k) g entered (omega arith) (omega arith) off-entry
+
+  -- every word behind those of the actions
+  pub add-keeps-behind : (m g : ℕ) → actionWidth ≤ g → g < width → word (addTable w n k x) m g ≡ word w m g
+  unfolding addTable
+  add-keeps-behind m g h inside =
+      word-off-field summed n m (ownAddsField k) g _ (omega arith) inside (λ z. omega arith)
+      ∙ word-off-field marked n m (pendingField k) g _ (omega arith) inside (λ z. omega arith)
+      ∙ word-off-field w n m (writeField k) g entered (omega arith) inside (λ z. omega arith)
 
   -- every row but that of the one that adds
   pub add-keeps-row : (m g : ℕ) → g < width → m ≢ n → word (addTable w n k x) m g ≡ word w m g
@@ -84,7 +92,7 @@ module _
   add-change =
       entering-change w (addTable w n k x) n k s alive add-length
       (λ m g h. add-keeps-field m g (omega arith) (λ z. omega arith) (λ z. omega arith))
-      add-keeps-row add-entry
+      add-keeps-behind add-keeps-row add-entry
       (λ j other ne. (
         add-keeps-field n (writeField j) (omega arith) (λ z. ne (omega arith)) (λ z. omega arith),
         add-keeps-field n (pendingField j) (omega arith) (λ z. omega arith) (λ z. ne (omega arith)),

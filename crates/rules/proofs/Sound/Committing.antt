@@ -2,18 +2,20 @@
 use Prim.Native.Nat.{ℕ, _≤_, _<_}
 use native.Mathlib.Omega.{arith}
 use native.Mathlib.Decide.{ℕ-discrete}
-use mathlib.Core.Path.{_≡_, refl, ap, ap₂, _∙_}
+use mathlib.Core.Path.{_≡_, refl, sym, ap, ap₂, _∙_}
 use mathlib.Core.Logic.{_⊎_, inl, inr, _≢_}
 use mathlib.Core.Bool.{false, not, cond}
 use mathlib.Core.List.{List}
 use borrow.Author.Tests.{eq-eqb, ne-eqb}
 use lib.Dec.{eqb}
 use lib.ListN.{length}
-use Rattle.rules.specs.Card.{accountCount, IsCharge}
+use Rattle.rules.specs.Card.{accountCount, firstCharge, IsCharge}
 use Rattle.rules.specs.Table.{width, tableLength, mostActions, committed, word, startedField, started, counterField, counter, withCounter, parentField, parentOf, stateField, stateOf, withState, endField, endTime, withEndTime, readFields, readField, readEntry, writeField, writeEntry, entered, hasWritten, hasWrites, pendingField, pendingWord, ownAddsField, ownAddsWord}
+use Rattle.rules.specs.Queue.{theQueue, queueLengthField}
 use Rattle.rules.specs.Step.{commitTime, commitCounter, joinedRead, joinedPending, joinTable, commitTable}
 use Rattle.rules.proofs.Laws.Words.{withWord-length, word-same, word-other-row, word-other-field, word-off-field}
-use Rattle.rules.proofs.Laws.Sets.{withSets-length, withSets-other-row, withSets-other-field, withSets-read, withSets-write, withSets-pending, withSets-own-adds}
+use Rattle.rules.proofs.Laws.Queue.{SameLine}
+use Rattle.rules.proofs.Laws.Sets.{withSets-length, withSets-other-row, withSets-other-field, withSets-read, withSets-write, withSets-pending, withSets-behind}
 
 module _ (w : List ℕ) (n p : ℕ) (one : 1 ≤ n) where
   -- the table with the state, then the end time, then the counter put in; a parent's sets and sums come last
@@ -83,18 +85,38 @@ module _ (w : List ℕ) (n p : ℕ) (one : 1 ≤ n) where
   pub commit-keeps-sets : n ≢ p → (g : ℕ) → readFields ≤ g → g < width → word (commitTable w n p) n g ≡ word w n g
   commit-keeps-sets = commit-keeps-others n
 
-  -- nobody's own adds change, not even the parent's
-  pub commit-own-adds : (m k : ℕ) → IsCharge k → ownAddsWord (commitTable w n p) m k ≡ ownAddsWord w m k
+  -- nothing that stands behind the sums changes, not even in the parent's row
+  commit-behind : (m g : ℕ) → ownAddsField firstCharge ≤ g → g < width → word (commitTable w n p) m g ≡ word w m g
   unfolding commitTable joinTable
-  commit-own-adds m k charge = go (ℕ-discrete m p) (ℕ-discrete p 0)
+  commit-behind m g far h = go (ℕ-discrete m p) (ℕ-discrete p 0)
     where
-      before-join : ownAddsWord ended m k ≡ ownAddsWord w m k
-      before-join = ended-keeps-field m (ownAddsField k) (omega arith) (λ z. omega arith) (λ z. omega arith)
+      before-join : word ended m g ≡ word w m g
+      before-join = ended-keeps-field m g h (λ z. omega arith) (λ z. omega arith)
 
-      go : Dec (m ≡ p) → Dec (p ≡ 0) → ownAddsWord (commitTable w n p) m k ≡ ownAddsWord w m k
-      go (no ne) _ = commit-keeps-others m ne (ownAddsField k) (omega arith) (omega arith)
+      go : Dec (m ≡ p) → Dec (p ≡ 0) → word (commitTable w n p) m g ≡ word w m g
+      go (no ne) _ = commit-keeps-others m ne g (omega arith) h
       go (yes e) (yes top) = rw (eq-eqb p 0 top) before-join
-      go (yes e) (no sub) = rw (ne-eqb p 0 sub) (rw e (withSets-own-adds ended p _ _ _ k charge) ∙ before-join)
+      go (yes e) (no sub) = rw (ne-eqb p 0 sub) (rw e (withSets-behind ended p _ _ _ g far) ∙ before-join)
+
+  -- so nobody's own adds do
+  pub commit-own-adds : (m k : ℕ) → IsCharge k → ownAddsWord (commitTable w n p) m k ≡ ownAddsWord w m k
+  commit-own-adds m k charge = commit-behind m (ownAddsField k) (omega arith) (omega arith)
+
+  -- .. and the queue stays
+  head-kept : (g : ℕ) → readFields ≤ g → g < width → word (commitTable w n p) 0 g ≡ word w 0 g
+  unfolding commitTable
+  head-kept g high h = go (ℕ-discrete p 0)
+    where
+      go : Dec (p ≡ 0) → word (commitTable w n p) 0 g ≡ word w 0 g
+      go (yes top) = rw (eq-eqb p 0 top) (ended-keeps-field 0 g h (λ z. omega arith) (λ z. omega arith))
+      go (no sub) = commit-keeps-others 0 (λ z. sub (sym z)) g high h
+
+  pub commit-line : SameLine w (commitTable w n p) theQueue
+  commit-line =
+      record {
+        sameLength = head-kept (queueLengthField theQueue) (omega arith) (omega arith);
+        sameEntries = λ i g _ behind inside. commit-behind i g (omega arith) inside;
+      }
 
   module _ (long : length w ≡ tableLength) (few : n ≤ mostActions) where
     stated-long : length stated ≡ tableLength

@@ -12,15 +12,17 @@ use lib.Dec.{eqb}
 use Rattle.rules.specs.Range.{count}
 use Rattle.rules.specs.Card.{accountCount, IsCharge}
 use Rattle.rules.specs.Table.{hasEnd, width, mostActions, live, committed, aborted, word, startedField, started, counterField, counter, parentField, parentOf, stateField, stateOf, withState, endField, endTime, readField, readEntry, hasRead, readTime, writeField, writeEntry, entered, hasWritten, hasWrites, pendingField, pendingWord, isLive, isCommitted, actions}
+use Rattle.rules.specs.Queue.{theQueue, queueLengthField, isQueued}
 use Rattle.rules.specs.Sound.{hasState, IsStarted, Sound}
 use Rattle.rules.specs.Step.{commitTime, commitCounter, passesRead, joinedRead, joinedPending, commitTable}
 use Rattle.rules.proofs.Laws.Tests.{and-left, and-right, and-both, test, not-both, false-of-not-true, cond-holds}
 use Rattle.rules.proofs.Laws.Ranges.{count-agree, count-one-more}
 use Rattle.rules.proofs.Laws.Permitted.{Committable, no-live-child, not-own-parent}
 use Rattle.rules.proofs.Laws.Words.{withWord-length, word-same, word-other-row, word-off-field}
+use Rattle.rules.proofs.Laws.Queue.{SameLine}
 use Rattle.rules.proofs.Laws.Walking.{parent-known}
-use Rattle.rules.proofs.Sound.TableChanges.{TableChange, Ended, SumStays, sum-stays, writes-agree, live-uncommitted}
-use Rattle.rules.proofs.Sound.Committing.{commit-length, commit-started, commit-parent, commit-keeps-row, commit-keeps-sets, commit-keeps-others, commit-counter, commit-state, commit-end, commit-read, commit-write, commit-pending}
+use Rattle.rules.proofs.Sound.TableChanges.{TableChange, Ended, SumStays, sum-stays, line-stays, writes-agree, live-uncommitted}
+use Rattle.rules.proofs.Sound.Committing.{commit-length, commit-started, commit-parent, commit-keeps-row, commit-keeps-sets, commit-keeps-others, commit-line, commit-counter, commit-state, commit-end, commit-read, commit-write, commit-pending}
 
 -- ---- one action finishes: what its state alone gives of a change
 
@@ -51,6 +53,12 @@ module _ (w v : List ℕ) (n : ℕ) (j : Committable w n)
       go : Dec (m ≡ n) → hasState v m ≡ true
       go (yes e) = rw e of-n
       go (no ne) = rw (others m (h .0) ne) (s .states m h)
+
+  -- whoever waits is another, and stays live
+  pub waiting-stays : Sound w → (m : ℕ) → isQueued w theQueue m ≡ true → isLive v m ≡ true
+  waiting-stays s m queued =
+      let may = s .line .waits m queued in
+      rw (others m (may .begun .0) (λ e. not-both queued (rw e (j .unqueued)))) (may .alive)
 
 -- ---- a failed commit: the action becomes aborted, and nothing else changes
 
@@ -93,6 +101,13 @@ module _ (w : List ℕ) (s : Sound w) (n : ℕ) (j : Committable w n) where
       rw (entry, fail-head counterField (omega arith))
       (s .reads m k h (was-live w failed n j (inr fail-state) fail-others m h l) hk (rw entry at r))
 
+  pub fail-line : SameLine w (withState w n aborted) theQueue
+  fail-line =
+      record {
+        sameLength = fail-keeps-field 0 (queueLengthField theQueue) (omega arith) (λ z. omega arith);
+        sameEntries = λ i g _ behind inside. fail-keeps-field i g inside (λ z. omega arith);
+      }
+
   pub fail-change : TableChange w (withState w n aborted) n
   unfolding actions
   fail-change =
@@ -117,6 +132,11 @@ module _ (w : List ℕ) (s : Sound w) (n : ℕ) (j : Committable w n) where
             λ m k h charge.
             sum-stays w failed m k (fail-keeps-field m (writeField k) (omega arith) (λ z. omega arith))
             (fail-keeps-field m (pendingField k) (omega arith) (λ z. omega arith));
+        line =
+            line-stays w failed s fail-line
+            (fail-head startedField (omega arith))
+            (λ m h. fail-keeps-field m parentField (omega arith) (λ z. omega arith))
+            (was-live w failed n j (inr fail-state) fail-others) (waiting-stays w failed n j (inr fail-state) fail-others s);
       }
 
 -- ---- a commit that passes
@@ -271,4 +291,8 @@ module _ (w : List ℕ) (s : Sound w) (n : ℕ) (j : Committable w n) where
         reads = pass-reads;
         ends = pass-end;
         pendings = pass-sums;
+        line =
+            line-stays w passed s (commit-line w n parent (j .own .0)) (commit-started w n parent (j .own .0))
+            (λ m h. commit-parent w n parent (j .own .0) m)
+            (was-live w passed n j (inl pass-state) pass-others) (waiting-stays w passed n j (inl pass-state) pass-others s);
       }

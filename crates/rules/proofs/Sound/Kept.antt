@@ -1,19 +1,20 @@
 -- The new table is sound, and every event keeps every sound table sound, refused ones included: the theorem that the rest
 -- of the folder leads to. Assumes nothing.
 use Prim.Native.Nat.{ℕ}
-use mathlib.Core.Path.{refl}
-use mathlib.Core.List.{List, [], _∷_}
+use mathlib.Core.Path.{_≡_, refl, _∙_}
+use mathlib.Core.Bool.{Bool, true, false}
+use mathlib.Core.List.{List, []}
 use Rattle.rules.specs.Range.{upFrom, all, count}
 use Rattle.rules.specs.Card.{IsCharge}
 use Rattle.rules.specs.Table.{word, newTable, actions}
-use Rattle.rules.specs.Sound.{sound, Sound}
+use Rattle.rules.specs.Queue.{theQueue, queue, isQueued, isQueuedFailed, withoutBelow}
+use Rattle.rules.specs.Sound.{areDistinct, queueNumbers, isSoundQueue, sound, Sound}
 use Rattle.rules.specs.Event.{Event}
 use Rattle.rules.specs.declared.Found.{Found}
 use Rattle.rules.specs.declared.Found.the-variants.{Nothing, At}
 use Rattle.rules.specs.Ledger.{Ledger}
-use Rattle.rules.specs.Step.{Outcome, start, read, write, add, committedUnder, judged, abort, step}
-use Rattle.rules.specs.Run.{run}
-use Rattle.rules.proofs.Laws.Permitted.{Startable, Touchable, Committable, step-by-kind}
+use Rattle.rules.specs.Step.{Outcome, start, read, write, add, committedUnder, judged, enter, revealed, judgeLeft, judge, dropped, abortLeft, abort, step}
+use Rattle.rules.proofs.Laws.Permitted.{Startable, Touchable, Committable, Judgeable, step-by-kind}
 use Rattle.rules.proofs.Sound.Soundness.{facts}
 use Rattle.rules.proofs.Sound.TableChanges.{TableChange, change-keeps-sound}
 use Rattle.rules.proofs.Sound.Starting.{start-keeps-sound}
@@ -22,56 +23,79 @@ use Rattle.rules.proofs.Sound.Writing.{write-change}
 use Rattle.rules.proofs.Sound.Adding.{add-change}
 use Rattle.rules.proofs.Sound.Judging.{fail-change, commit-change}
 use Rattle.rules.proofs.Sound.Aborting.{abort-change}
+use Rattle.rules.proofs.Sound.QueueChanges.{tail-change, ready-change, still-queued, without-change, same-reach, out-committable}
+use Rattle.rules.proofs.Sound.Leaving.{leave-keeps-sound}
 
 pub new-sound : Sound newTable
-unfolding sound newTable word actions upFrom all count
+unfolding sound newTable word actions upFrom all count isSoundQueue areDistinct queueNumbers queue
 new-sound = facts newTable refl
 
 -- ---- event by event, where it isn't refused
 
 -- the table after an event is sound
-abbrev Sounds : Outcome → Type 0
-Sounds o = Sound (o .after .table)
+abbrev Sounds : Outcome → List ℕ → Type 0
+Sounds o leavers = Sound (o .after .table)
 
 module _ (s : Ledger) (was : Sound (s .table)) (n : ℕ) where
   by-change : (v : List ℕ) → TableChange (s .table) v n → Sound v
   by-change v c = change-keeps-sound (s .table) v n was c
 
-  start-sound : Startable (s .table) n → Sounds (start s n)
+  start-sound : Startable (s .table) n → Sounds (start s n) []
   unfolding start
-  start-sound p = start-keeps-sound (s .table) n was (p .room) (p .known) (p .alive)
+  start-sound p = start-keeps-sound (s .table) n was (p .room) (p .known) (p .alive) (p .unqueued)
 
-  read-sound : (k : ℕ) → Touchable (s .table) n k → Sounds (read s n k)
+  read-sound : (k : ℕ) → Touchable (s .table) n k → Sounds (read s n k) []
   unfolding read
-  read-sound k p = by-change _ (read-change (s .table) n k (p .account) was)
+  read-sound k p = by-change _ (read-change (s .table) n k (p .account) was (p .own))
 
-  write-sound : (k : ℕ) (card : List ℕ) → Touchable (s .table) n k → Sounds (write s n k card)
+  write-sound : (k : ℕ) (card : List ℕ) → Touchable (s .table) n k → Sounds (write s n k card) []
   unfolding write
   write-sound k card p = by-change _ (write-change (s .table) was n k (p .own) (p .alive) (p .account))
 
-  add-sound : (k : ℕ) (card : List ℕ) → Touchable (s .table) n k → IsCharge k → Sounds (add s n k card)
+  add-sound : (k : ℕ) (card : List ℕ) → Touchable (s .table) n k → IsCharge k → Sounds (add s n k card) []
   unfolding add
   add-sound k card p charge = by-change _ (add-change (s .table) was n k (p .own) (p .alive) charge _)
 
-  judged-sound : Committable (s .table) n → (f : Found) → Sounds (judged s n f)
+  judged-sound : Committable (s .table) n → (f : Found) → Sounds (judged s n f) []
   unfolding judged committedUnder
   judged-sound j Nothing = by-change _ (commit-change (s .table) was n j)
   judged-sound j (At t k) = by-change _ (fail-change (s .table) was n j)
 
-  abort-sound : Sounds (abort s n)
-  unfolding abort
-  abort-sound = by-change _ (abort-change (s .table) n was)
+  enter-sound : Committable (s .table) n → Sounds (enter s n) []
+  unfolding enter
+  enter-sound free = by-change _ (tail-change was n free _ n)
 
--- ---- any event, and any list of them
+  -- before the head is tried
+  pub out-sound : Sound (withoutBelow (s .table) theQueue n)
+  out-sound = by-change _ (without-change was n n)
+
+  pub revealed-sound : isQueued (s .table) theQueue n ≡ true → (b : Bool) → Sound (revealed s n b .table)
+  unfolding revealed
+  revealed-sound queued true =
+      change-keeps-sound _ _ n out-sound (fail-change _ out-sound n (out-committable was n queued))
+  revealed-sound queued false = by-change _ (ready-change was n n)
+
+  pub dropped-sound : Sound (dropped s n .table)
+  unfolding dropped
+  dropped-sound =
+      change-keeps-sound _ _ n out-sound
+      (abort-change _ n out-sound (λ m queued. same-reach was n m ∙ still-queued was n m queued .1))
+
+  -- and after
+  judge-sound : Judgeable (s .table) n → Sounds (judge s n) []
+  unfolding judge judgeLeft
+  judge-sound j = leave-keeps-sound _ (revealed-sound (j .queued) (isQueuedFailed (s .table) theQueue n))
+
+  abort-sound : Sounds (abort s n) []
+  unfolding abort abortLeft
+  abort-sound = leave-keeps-sound _ dropped-sound
+
+-- ---- any event
 
 pub step-keeps-sound : (s : Ledger) (e : Event) → Sound (s .table) → Sound (step s e .after .table)
 step-keeps-sound s e was =
     let n = e .number in
     step-by-kind s e Sounds was
     (start-sound s was n) (λ p _. read-sound s was n (e .account) p) (λ p _ _. write-sound s was n (e .account) (e .card) p)
-    (λ j f _ _. judged-sound s was n j f) (λ p _ charge _. add-sound s was n (e .account) (e .card) p charge) (abort-sound s was n)
-
-pub run-keeps-sound : (s : Ledger) (es : List Event) → Sound (s .table) → Sound (run s es .after .table)
-unfolding run
-run-keeps-sound s [] sounds = sounds
-run-keeps-sound s (e ∷ es) sounds = run-keeps-sound (step s e .after) es (step-keeps-sound s e sounds)
+    (λ j _ f _ _. judged-sound s was n j f) (λ p _ charge _. add-sound s was n (e .account) (e .card) p charge)
+    (enter-sound s was n) (judge-sound s was n) (abort-sound s was n)

@@ -11,10 +11,12 @@ use lib.Dec.{eqb}
 use lib.ListN.{length}
 use Rattle.rules.specs.Card.{accountCount}
 use Rattle.rules.specs.Table.{hasEnd, width, committed, word, startedField, counterField, counter, parentField, stateField, stateOf, endField, readField, readEntry, withRead, hasRead, readTime, writeField, pendingField, isLive}
+use Rattle.rules.specs.Queue.{theQueue, queueLengthField}
 use Rattle.rules.specs.Sound.{IsStarted, Sound}
 use Rattle.rules.specs.Step.{leavesReadSet, readTable}
 use Rattle.rules.proofs.Laws.Words.{withWord-length, word-same, word-other-row, word-off-field}
-use Rattle.rules.proofs.Sound.TableChanges.{TableChange, sum-stays, quiet-change, writes-agree}
+use Rattle.rules.proofs.Laws.Queue.{SameLine}
+use Rattle.rules.proofs.Sound.TableChanges.{TableChange, sum-stays, quiet-line, quiet-change, writes-agree}
 use Rattle.rules.proofs.Laws.Tests.{cond-holds}
 
 -- ---- the table after a read of account k by n
@@ -82,8 +84,15 @@ module _ (w : List ℕ) (n k : ℕ) (account : k < accountCount) where
         go (inl old) = rw old (s .reads m j h (rw (state-kept m) at l) hj (rw old at r))
         go (inr new) = omega arith
 
-    pub read-change : TableChange w (readTable w n k) n
-    read-change =
+    pub read-line : IsStarted w n → SameLine w (readTable w n k) theQueue
+    read-line own =
+        record {
+          sameLength = read-keeps-row 0 (queueLengthField theQueue) (omega arith) (λ z. omega (arith, own));
+          sameEntries = λ i g _ behind inside. read-keeps-field i g inside (λ z. omega arith);
+        }
+
+    pub read-change : IsStarted w n → TableChange w (readTable w n k) n
+    read-change own =
         quiet-change w (readTable w n k) n s read-length
         (read-keeps-field 0 startedField (omega arith) (λ z. omega arith))
         counter-kept
@@ -93,3 +102,6 @@ module _ (w : List ℕ) (n k : ℕ) (account : k < accountCount) where
         (λ m j h charge.
         sum-stays w (readTable w n k) m j (read-keeps-field m (writeField j) (omega arith) (λ z. omega arith))
         (read-keeps-field m (pendingField j) (omega arith) (λ z. omega arith)))
+        (quiet-line w (readTable w n k) s (read-line own)
+        (read-keeps-field 0 startedField (omega arith) (λ z. omega arith))
+        (λ m. read-keeps-field m parentField (omega arith) (λ z. omega arith)) state-kept)

@@ -1,19 +1,21 @@
 -- The test for a sound table and the facts that it stands for, from the one to the other and back. Assumes nothing.
 use Prim.Native.Nat.{ℕ, _-_, _≤_, _<_}
 use native.Mathlib.Omega.{arith}
-use mathlib.Core.Path.{_≡_, sym, ap}
+use mathlib.Core.Path.{_≡_, sym, ap, _∙_}
 use mathlib.Core.Logic.{_⊎_, ⊎-elim, ⊎-map}
 use mathlib.Core.Bool.{Bool, true, false, not, _&&_, _||_}
 use mathlib.Core.List.{List}
 use borrow.Author.Tests.{ltb-true, ltb-false, leb-true, eqb-true, lt-ltb, le-leb, eq-eqb, not-true, not-false}
 use lib.Dec.{leb, ltb, eqb}
 use lib.ListN.{length}
-use Rattle.rules.specs.Range.{all, count}
+use Rattle.rules.specs.Range.{any, all, count}
 use Rattle.rules.specs.Card.{accountCount, accounts, firstCharge, chargeCount, IsCharge, chargeAccounts}
 use Rattle.rules.specs.Table.{hasEnd, tableLength, mostActions, started, counter, parentOf, endTime, hasRead, readTime, writeEntry, hasWritten, pendingWord, isLive, isCommitted, actions}
-use Rattle.rules.specs.Sound.{hasState, hasParentBelow, hasParentAlive, hasReadInTime, hasEndInTime, sharesEndTime, hasEndAlone, hasPendingWritten, isSoundAction, sound, IsStarted, Sound}
+use Rattle.rules.specs.Queue.{theQueue, queueLength, queue, isQueued}
+use Rattle.rules.specs.Sound.{hasState, hasParentBelow, hasParentAlive, hasReadInTime, hasEndInTime, sharesEndTime, hasEndAlone, hasPendingWritten, isSoundAction, mayWait, queueNumbers, isSoundQueue, sound, IsStarted, MayWait, SoundQueue, Sound}
 use Rattle.rules.proofs.Laws.Tests.{and-left, and-right, and-both, or-cases, or-inl, or-inr, test, implied, implies, not-both, false-of-not-true}
 use Rattle.rules.proofs.Laws.Ranges.{Within, all-at, all-of, count-at-most}
+use Rattle.rules.proofs.Laws.Lists.{any-map, all-listed, listed-all}
 use Rattle.rules.proofs.Laws.Sets.{charge-within}
 
 -- the started actions are the numbers of the run that the scans go over
@@ -165,6 +167,54 @@ module _ (w : List ℕ) (n : ℕ) where
       (and-both (and-both (and-both (and-both (and-both (s .state) (s .below)) (s .alive)) (s .reads)) (s .end)) (s .alone))
       (s .pendings)
 
+-- ---- the queue
+
+-- who is queued is who is listed
+pub queued-listed : (w : List ℕ) (h n : ℕ) → isQueued w h n ≡ any (eqb n) (queueNumbers w h)
+unfolding isQueued queueNumbers
+queued-listed w h n = sym (any-map (eqb n) (λ e. e .number) (queue w h))
+
+module _ (w : List ℕ) (n : ℕ) where
+  waiting-facts : mayWait w n ≡ true → MayWait w n
+  unfolding mayWait
+  waiting-facts t =
+      let first = leb 1 n in
+      let known = leb n (started w) in
+      let t2 = and-left (first && known && isLive w n) _ t in
+      let t1 = and-left (first && known) _ t2 in
+      record {
+        begun = (leb-true _ _ (and-left first known t1), leb-true _ _ (and-right first known t1));
+        alive = and-right (first && known) _ t2;
+        childless = not-true _ (and-right (first && known && isLive w n) _ t);
+      }
+
+  waiting-tested : MayWait w n → mayWait w n ≡ true
+  unfolding mayWait
+  waiting-tested may =
+      and-both (and-both (and-both (le-leb _ _ (may .begun .0)) (le-leb _ _ (may .begun .1))) (may .alive)) (ap not (may .childless))
+
+module _ (w : List ℕ) (h : ℕ) where
+  queue-facts : isSoundQueue w h ≡ true → SoundQueue w h
+  unfolding isSoundQueue
+  queue-facts t =
+      let short = leb (queueLength w h) mostActions in
+      let waits = all (mayWait w) (queueNumbers w h) in
+      let t1 = and-left (short && waits) _ t in
+      record {
+        short = leb-true _ _ (and-left short waits t1);
+        waits = λ n queued.
+            waiting-facts w n (all-listed (mayWait w) (queueNumbers w h) (and-right short waits t1) n (sym (queued-listed w h n) ∙ queued));
+        once = and-right (short && waits) _ t;
+      }
+
+  queue-tested : SoundQueue w h → isSoundQueue w h ≡ true
+  unfolding isSoundQueue
+  queue-tested q =
+      and-both
+      (and-both (le-leb _ _ (q .short))
+      (listed-all (mayWait w) (queueNumbers w h) (λ n listed. waiting-tested w n (q .waits n (queued-listed w h n ∙ listed)))))
+      (q .once)
+
 -- of two numbers one is the lower, or they are one
 by-order : (P : Type 0) (m n : ℕ) → (m < n → P) → (n < m → P) → (m ≡ n → P) → P
 by-order P m n f g h =
@@ -180,10 +230,11 @@ module _ (w : List ℕ) where
       let few = leb (started w) mostActions in
       let counted = leb (counter w) (count (isCommitted w) (actions w)) in
       let fold = all (isSoundAction w) (actions w) in
-      let t3 = and-left (long && few && counted) fold t in
+      let t4 = and-left (long && few && counted && fold) (isSoundQueue w theQueue) t in
+      let t3 = and-left (long && few && counted) fold t4 in
       let t2 = and-left (long && few) counted t3 in
       let of : (n : ℕ) → IsStarted w n → SoundAction w n =
-      λ n h. action-facts w n (all-started w (isSoundAction w) (and-right (long && few && counted) fold t) n h) in
+      λ n h. action-facts w n (all-started w (isSoundAction w) (and-right (long && few && counted) fold t4) n h) in
       record {
         long = eqb-true _ _ (and-left long few t2);
         few = leb-true _ _ (and-right long few t2);
@@ -200,6 +251,7 @@ module _ (w : List ℕ) where
             (λ gt. absurd (alone-fact w m (of m hm .alone) n (hn .0, gt) q p (sym parents) (sym ends)))
             (λ e. e);
         pendings = λ n k h. pending-fact w n (of n h .pendings) k;
+        line = queue-facts w theQueue (and-right (long && few && counted && fold) (isSoundQueue w theQueue) t);
       }
 
   tested-action : Sound w → (n : ℕ) → IsStarted w n → SoundAction w n
@@ -220,8 +272,9 @@ module _ (w : List ℕ) where
   unfolding sound
   tested s =
       and-both
-      (and-both (and-both (eq-eqb _ _ (s .long)) (le-leb _ _ (s .few))) (le-leb _ _ (s .counted)))
-      (started-all w _ (λ n h. action-tested w n (tested-action s n h)))
+      (and-both (and-both (and-both (eq-eqb _ _ (s .long)) (le-leb _ _ (s .few))) (le-leb _ _ (s .counted)))
+      (started-all w _ (λ n h. action-tested w n (tested-action s n h))))
+      (queue-tested w theQueue (s .line))
 
 -- ---- RULES 7.3: the counter is no higher than there can be actions
 

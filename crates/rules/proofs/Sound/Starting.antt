@@ -7,19 +7,21 @@ use mathlib.Core.Path.{_≡_, refl, sym, ap, _∙_}
 use mathlib.Core.Logic.{_⊎_, inl, inr, ⊎-elim, _≢_}
 use mathlib.Core.Bool.{true, false}
 use mathlib.Core.List.{List}
-use borrow.Author.Tests.{eq-eqb}
+use borrow.Author.Tests.{eq-eqb, ne-eqb}
 use lib.Dec.{eqb}
 use lib.ListN.{length}
 use Rattle.rules.specs.Range.{count}
 use Rattle.rules.specs.Card.{accountCount, IsCharge}
-use Rattle.rules.specs.Table.{hasEnd, width, tableLength, mostActions, live, committed, word, startedField, started, withStarted, counterField, counter, parentField, parentOf, withParent, stateField, stateOf, withState, endField, endTime, withEndTime, readField, readEntry, writeField, writeEntry, hasRead, readTime, hasWritten, pendingField, pendingWord, ownAddsWord, withoutAdds, isLive, isCommitted, actions}
-use Rattle.rules.specs.Sound.{IsStarted, Sound}
+use Rattle.rules.specs.Table.{hasEnd, actionWidth, width, tableLength, mostActions, live, committed, word, startedField, started, withStarted, counterField, counter, parentField, parentOf, withParent, stateField, stateOf, withState, endField, endTime, withEndTime, readField, readEntry, writeField, writeEntry, hasRead, readTime, hasWritten, pendingField, pendingWord, ownAddsField, ownAddsWord, withoutAdds, isLive, isCommitted, actions, isLiveChildOf, hasLiveChild}
+use Rattle.rules.specs.Queue.{theQueue, queueLengthField, isQueued}
+use Rattle.rules.specs.Sound.{queueNumbers, IsStarted, MayWait, SoundQueue, Sound}
 use Rattle.rules.specs.Step.{startTable}
 use Rattle.rules.proofs.Laws.Walking.{parent-known}
-use Rattle.rules.proofs.Laws.Tests.{and-left, not-both}
-use Rattle.rules.proofs.Laws.Ranges.{count-agree, count-snoc}
+use Rattle.rules.proofs.Laws.Tests.{and-left, and-fails-left, not-both}
+use Rattle.rules.proofs.Laws.Ranges.{not-any, not-any-at, count-agree, count-snoc}
+use Rattle.rules.proofs.Laws.Queue.{SameLine, queue-kept}
 use Rattle.rules.proofs.Laws.Words.{withWord-length, word-same, word-other-row, word-other-field}
-use Rattle.rules.proofs.Laws.Sets.{withSets-length, withSets-other-row, withSets-other-field, withSets-read, withSets-write, withSets-pending, withSets-own-adds, withoutAdds-length, withoutAdds-other-row, withoutAdds-other-field, withoutAdds-same}
+use Rattle.rules.proofs.Laws.Sets.{withSets-length, withSets-other-row, withSets-other-field, withSets-read, withSets-write, withSets-pending, withSets-behind, withoutAdds-length, withoutAdds-other-row, withoutAdds-other-field, withoutAdds-behind, withoutAdds-same}
 use Rattle.rules.proofs.Sound.TableChanges.{writes-agree, live-uncommitted}
 
 module _ (w : List ℕ) (p : ℕ) where
@@ -73,8 +75,30 @@ module _ (w : List ℕ) (p : ℕ) where
       ∙ word-other-row parented new 0 stateField g live (omega arith) h (λ z. omega arith)
       ∙ word-other-row headed new 0 parentField g p (omega arith) h (λ z. omega arith)
 
+  start-head : (g : ℕ) → g < width → g ≢ startedField → word (startTable w p) 0 g ≡ word w 0 g
+  start-head g h ne = head-from g h ∙ word-other-field w 0 startedField g new ne
+
   pub start-counter : counter (startTable w p) ≡ counter w
-  start-counter = head-from counterField (omega arith) ∙ word-other-field w 0 startedField counterField new (λ z. omega arith)
+  start-counter = start-head counterField (omega arith) (λ z. omega arith)
+
+  -- the queue's words stay, also those in the new action's row
+  start-behind : (m g : ℕ) → 1 ≤ m → actionWidth ≤ g → g < width → word (startTable w p) m g ≡ word w m g
+  unfolding startTable
+  start-behind m g one far h = go (ℕ-discrete m new)
+    where
+      go : Dec (m ≡ new) → word (startTable w p) m g ≡ word w m g
+      go (no ne) = start-keeps-row m g h one ne
+      go (yes e) =
+          rw e
+          (withSets-behind filled new _ _ _ g (omega arith)
+          ∙ withoutAdds-behind timed new g far
+          ∙ word-other-field stated new endField g 0 (λ z. omega arith)
+          ∙ word-other-field parented new stateField g live (λ z. omega arith)
+          ∙ word-other-field headed new parentField g p (λ z. omega arith)
+          ∙ word-other-row w 0 new startedField g new (omega arith) h (λ z. omega arith))
+
+  pub start-line : SameLine w (startTable w p) theQueue
+  start-line = record { sameLength = start-head (queueLengthField theQueue) (omega arith) (λ z. omega arith); sameEntries = start-behind }
 
   module _ (long : length w ≡ tableLength) (room : started w < mostActions) where
     pub start-started : started (startTable w p) ≡ started w + 1
@@ -132,12 +156,14 @@ module _ (w : List ℕ) (p : ℕ) where
     pub start-own-adds : (k : ℕ) → IsCharge k → ownAddsWord (startTable w p) new k ≡ 0
     unfolding startTable
     start-own-adds k charge =
-        withSets-own-adds filled new _ _ _ k charge
+        withSets-behind filled new _ _ _ (ownAddsField k) (omega arith)
         ∙ withoutAdds-same timed new (withWord-length stated new endField 0 ∙ stated-long) (omega arith) k charge
 
 -- ---- the table stays sound
 
-module _ (w : List ℕ) (p : ℕ) (s : Sound w) (room : started w < mostActions) (known : p ≤ started w) (alive : 1 ≤ p → isLive w p ≡ true) where
+module _
+    (w : List ℕ) (p : ℕ) (s : Sound w) (room : started w < mostActions) (known : p ≤ started w) (alive : 1 ≤ p → isLive w p ≡ true)
+    (unqueued : isQueued w theQueue p ≡ false) where
   -- a started action of the new table is one of the old, or the new one
   old-or-new : (m : ℕ) → IsStarted (startTable w p) m → IsStarted w m ⊎ (m ≡ new w p)
   old-or-new m h = go (ℕ-discrete m (started w + 1))
@@ -189,6 +215,39 @@ module _ (w : List ℕ) (p : ℕ) (s : Sound w) (room : started w < mostActions)
   no-read : (k : ℕ) → k < accountCount → hasRead (startTable w p) (new w p) k ≡ true → ⊥
   no-read k hk r = not-both r (rw (start-read w p (s .long) room k hk))
 
+  -- whoever waits is no parent of the new action, so it gets no live child
+  waiting-childless : (n : ℕ) → isQueued w theQueue n ≡ true → hasLiveChild (startTable w p) n ≡ false
+  unfolding hasLiveChild actions
+  waiting-childless n queued =
+      not-any (isLiveChildOf (startTable w p) n) 1 (started (startTable w p))
+      (λ m r.
+      by-age (λ x. isLiveChildOf (startTable w p) n x ≡ false)
+      (λ x h.
+      rw (old-row x parentField h (omega arith), old-row x stateField h (omega arith))
+      (not-any-at (isLiveChildOf w n) 1 (started w) x (s .line .waits n queued .childless) (omega arith)))
+      (rw (start-parent w p (s .long) room)
+      (and-fails-left (eqb p n) _ .1 (λ _. ne-eqb p n (λ same. not-both queued (rw (← same) unqueued)))))
+      m (omega arith))
+
+  waits-on : (n : ℕ) → isQueued w theQueue n ≡ true → MayWait (startTable w p) n
+  waits-on n queued =
+      let may = s .line .waits n queued in
+      record {
+        begun = omega (arith, may .begun, start-started w p (s .long) room);
+        alive = rw (old-row n stateField (may .begun) (omega arith)) (may .alive);
+        childless = waiting-childless n queued;
+      }
+
+  line-on : SoundQueue (startTable w p) theQueue
+  unfolding isQueued queueNumbers
+  line-on =
+      let q = queue-kept w (startTable w p) theQueue (omega arith) (start-line w p) in
+      record {
+        short = rw (start-line w p .sameLength) (s .line .short);
+        waits = λ n queued. waits-on n (rw q at queued);
+        once = rw q (s .line .once);
+      }
+
   pub start-keeps-sound : Sound (startTable w p)
   start-keeps-sound =
       record {
@@ -221,6 +280,7 @@ module _ (w : List ℕ) (p : ℕ) (s : Sound w) (room : started w < mostActions)
             (λ x hx none.
             rw (old-row x (pendingField k) hx (omega arith)) (s .pendings x k hx charge (rw (old-row x (writeField k) hx (omega arith)) at none)))
             (λ none. start-pending w p (s .long) room k charge) m h;
+        line = line-on;
       }
     where
       store-or-live : Dec (p ≡ 0) → (p ≡ 0) ⊎ (isLive w p ≡ true)

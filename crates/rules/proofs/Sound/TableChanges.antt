@@ -13,10 +13,12 @@ use lib.Dec.{eqb}
 use lib.ListN.{length}
 use Rattle.rules.specs.Range.{count}
 use Rattle.rules.specs.Card.{accountCount, accounts, IsCharge}
-use Rattle.rules.specs.Table.{hasEnd, tableLength, width, live, committed, word, writeFields, startedField, counterField, parentField, stateField, endField, readField, readEntry, writeField, writeEntry, entered, hasWritten, hasWrites, pendingField, pendingWord, started, counter, parentOf, stateOf, endTime, hasRead, readTime, isLive, isCommitted, actions}
-use Rattle.rules.proofs.Laws.Tests.{and-left, and-right, and-both, not-both}
-use Rattle.rules.proofs.Laws.Ranges.{any-agree}
-use Rattle.rules.specs.Sound.{hasState, IsStarted, Sound}
+use Rattle.rules.specs.Table.{hasEnd, tableLength, actionWidth, width, live, committed, word, writeFields, startedField, counterField, parentField, stateField, endField, readField, readEntry, writeField, writeEntry, entered, hasWritten, hasWrites, pendingField, pendingWord, started, counter, parentOf, stateOf, endTime, hasRead, readTime, isLive, isCommitted, actions, isChildOf, isLiveChildOf, hasLiveChild}
+use Rattle.rules.specs.Queue.{theQueue, queueLengthField, isQueued}
+use Rattle.rules.specs.Sound.{hasState, queueNumbers, IsStarted, SoundQueue, Sound}
+use Rattle.rules.proofs.Laws.Tests.{and-left, and-right, and-both, not-both, false-of-not-true}
+use Rattle.rules.proofs.Laws.Ranges.{not-any, not-any-at, any-agree}
+use Rattle.rules.proofs.Laws.Queue.{SameLine, queue-kept}
 
 -- ---- two facts that every event needs
 
@@ -60,6 +62,7 @@ pub record TableChange (w v : List ℕ) (now : ℕ) : Type 0 where
   pub reads : (m k : ℕ) → IsStarted w m → isLive v m ≡ true → k < accountCount → hasRead v m k ≡ true → readTime v m k ≤ counter v
   pub ends : (m : ℕ) → IsStarted w m → hasEnd v m ≡ true → Ended w v now m
   pub pendings : (m k : ℕ) → IsStarted w m → IsCharge k → SumStays w v m k
+  pub line : SoundQueue v theQueue
 
 module _ (w v : List ℕ) (now : ℕ) (s : Sound w) (c : TableChange w v now) where
   -- the started actions are the same
@@ -113,7 +116,57 @@ module _ (w v : List ℕ) (now : ℕ) (s : Sound w) (c : TableChange w v now) wh
         ends = end-in-time;
         alone = end-alone;
         pendings = pending-written;
+        line = c .line;
       }
+
+-- ---- the queue
+
+-- nobody gets a live child where nobody becomes live and parents stay
+pub still-childless :
+    (w v : List ℕ) (n : ℕ) → started v ≡ started w → ((m : ℕ) → IsStarted w m → parentOf v m ≡ parentOf w m) →
+    ((m : ℕ) → IsStarted w m → isLive v m ≡ true → isLive w m ≡ true) → hasLiveChild w n ≡ false → hasLiveChild v n ≡ false
+unfolding hasLiveChild actions
+still-childless w v n same parents wasLive none =
+    rw same
+    (not-any (isLiveChildOf v n) 1 (started w)
+    (λ m r.
+    let begun : IsStarted w m = omega arith in
+    false-of-not-true _
+    (λ child.
+    let under = and-left (isChildOf v n m) (isLive v m) child in
+    let alive = and-right (isChildOf v n m) (isLive v m) child in
+    not-both (and-both (rw (parents m begun) at under) (wasLive m begun alive))
+    (not-any-at (isLiveChildOf w n) 1 (started w) m none r))))
+
+-- a queue that stays is sound where those who wait stay live
+pub line-stays :
+    (w v : List ℕ) → Sound w → SameLine w v theQueue → started v ≡ started w →
+    ((m : ℕ) → IsStarted w m → parentOf v m ≡ parentOf w m) →
+    ((m : ℕ) → IsStarted w m → isLive v m ≡ true → isLive w m ≡ true) →
+    ((m : ℕ) → isQueued w theQueue m ≡ true → isLive v m ≡ true) → SoundQueue v theQueue
+unfolding isQueued queueNumbers
+line-stays w v s same starts parents wasLive stay =
+    let q = queue-kept w v theQueue (omega arith) same in
+    record {
+      short = rw (same .sameLength) (s .line .short);
+      waits = λ n queued.
+          let was = rw q at queued in
+          let may = s .line .waits n was in
+          record {
+            begun = rw starts (may .begun);
+            alive = stay n was;
+            childless = still-childless w v n starts parents wasLive (may .childless);
+          };
+      once = rw q (s .line .once);
+    }
+
+-- .. so where no state changes
+pub quiet-line :
+    (w v : List ℕ) → Sound w → SameLine w v theQueue → started v ≡ started w → ((m : ℕ) → parentOf v m ≡ parentOf w m) →
+    ((m : ℕ) → stateOf v m ≡ stateOf w m) → SoundQueue v theQueue
+quiet-line w v s same starts parents states =
+    line-stays w v s same starts (λ m _. parents m) (λ m _ l. rw (states m) at l)
+    (λ m queued. rw (states m) (s .line .waits m queued .alive))
 
 -- A change that leaves the head, the parents and the states as they were.
 pub quiet-change :
@@ -121,10 +174,10 @@ pub quiet-change :
     ((m : ℕ) → parentOf v m ≡ parentOf w m) → ((m : ℕ) → stateOf v m ≡ stateOf w m) →
     ((m k : ℕ) → IsStarted w m → isLive v m ≡ true → k < accountCount → hasRead v m k ≡ true → readTime v m k ≤ counter v) →
     ((m : ℕ) → IsStarted w m → hasEnd v m ≡ true → Ended w v now m) →
-    ((m k : ℕ) → IsStarted w m → IsCharge k → SumStays w v m k) →
+    ((m k : ℕ) → IsStarted w m → IsCharge k → SumStays w v m k) → SoundQueue v theQueue →
     TableChange w v now
 unfolding actions
-quiet-change w v now s len start count parents states reads ends pendings =
+quiet-change w v now s len start count parents states reads ends pendings line =
     record {
       long = len ∙ s .long;
       sameStarted = start;
@@ -137,6 +190,7 @@ quiet-change w v now s len start count parents states reads ends pendings =
       reads = reads;
       ends = ends;
       pendings = pendings;
+      line = line;
     }
   where
     committed-kept : isCommitted v ≡ isCommitted w
@@ -146,6 +200,7 @@ quiet-change w v now s len start count parents states reads ends pendings =
 module _
     (w v : List ℕ) (n k : ℕ) (s : Sound w) (alive : isLive w n ≡ true) (len : length v ≡ length w)
     (fields : (m g : ℕ) → g < writeFields → word v m g ≡ word w m g)
+    (behind : (m g : ℕ) → actionWidth ≤ g → g < width → word v m g ≡ word w m g)
     (others : (m g : ℕ) → g < width → m ≢ n → word v m g ≡ word w m g)
     (enters : writeEntry v n k ≡ entered)
     (accounts-kept : (j : ℕ) → IsCharge j → j ≢ k → (writeEntry v n j ≡ writeEntry w n j) × (pendingWord v n j ≡ pendingWord w n j)) where
@@ -188,3 +243,6 @@ module _
       (λ m. fields m parentField (omega arith)) state-kept reads-kept
       (λ m h. end-kept m)
       (λ m j h. sums-stay m j)
+      (quiet-line w v s
+      (record { sameLength = fields 0 (queueLengthField theQueue) (omega arith); sameEntries = λ i g _. behind i g })
+      (fields 0 startedField (omega arith)) (λ m. fields m parentField (omega arith)) state-kept)

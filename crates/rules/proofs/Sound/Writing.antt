@@ -36,6 +36,7 @@ module _ (w : List ℕ) (s : Sound w) (n k : ℕ) (own : IsStarted w n) (alive :
   write-change =
       entering-change w (writeTable w n k) n k s alive write-length
       (λ m g h. write-keeps-field m g (omega arith) (λ z. omega arith))
+      (λ m g h inside. write-keeps-field m g inside (λ z. omega arith))
       write-keeps-row write-entry
       (λ j charge ne. (
         write-keeps-field n (writeField j) (omega arith) (λ z. ne (omega arith)),

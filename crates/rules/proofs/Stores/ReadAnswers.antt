@@ -3,6 +3,7 @@
 use Prim.Native.Nat.{ℕ}
 use mathlib.Core.Path.{_≡_, refl, sym, ap, ap₂, _∙_}
 use mathlib.Core.Bool.{Bool, true, false, cond, false≢true}
+use mathlib.Core.List.{List, []}
 use borrow.Author.Tests.{eqb-true}
 use Rattle.rules.specs.declared.Answer.the-variants.{Read, ReadSum}
 use Rattle.rules.specs.declared.Found.{Found}
@@ -16,8 +17,10 @@ use Rattle.rules.specs.Cause.{causeOf}
 use Rattle.rules.specs.Nearest.{version, readSum, IsNearest}
 use Rattle.rules.specs.Look.{lookCause, lookAt, look, lookedCard}
 use Rattle.rules.specs.Clash.{firstClash}
-use Rattle.rules.specs.Serial.Told.{Told, itBegan, itRead, itWrote, itAdded, itCommitted, itDidNothing, told}
-use Rattle.rules.specs.Step.{Outcome, start, readAnswer, read, write, judged, commit, add, abort, step}
+use Rattle.rules.specs.Queue.{theQueue, isQueuedFailed}
+use Rattle.rules.specs.Serial.Told.{Told, itBegan, itRead, itWrote, itAdded, itCommitted, itLetLeave, itDidNothing, told}
+use Rattle.rules.specs.Step.{Outcome, start, readAnswer, read, write, judged, commit, add, enter, judgeLeft, judgeAnswer, judge, abort, step, leaversAt}
+use Rattle.rules.proofs.Laws.Tests.{not-both}
 use Rattle.rules.proofs.Laws.Allowed.{allowed-none}
 use Rattle.rules.proofs.Laws.EventCases.{AllowedIn, step-by-cause, act-by-kind}
 use Rattle.rules.proofs.Laws.Permitted.{read-fits, read-sum-fits}
@@ -37,31 +40,42 @@ tellsRead itRead = true
 tellsRead itWrote = false
 tellsRead itAdded = false
 tellsRead itCommitted = false
+tellsRead (itLetLeave leavers) = false
 tellsRead itDidNothing = false
 
 module _ (s : Ledger) (e : Event) where
   -- an outcome whose answer tells of a read is that of a read
-  abbrev OfRead : Outcome → Type 0
-  OfRead o =
-      tellsRead (told (o .answer)) ≡ true →
+  abbrev OfRead : Outcome → List ℕ → Type 0
+  OfRead o leavers =
+      tellsRead (told (o .answer) leavers) ≡ true →
       AllowedIn s e × (isRead e ≡ true) × (o .answer ≡ readAnswer (s .table) (s .base) (e .number) (e .account))
 
-  judged-other : (f : Found) → OfRead (judged s (e .number) f)
+  committed-other : (f : Found) → OfRead (judged s (e .number) f) []
   unfolding judged
-  judged-other Nothing tells = absurd (false≢true tells)
-  judged-other (At t k) tells = absurd (false≢true tells)
+  committed-other Nothing tells = absurd (false≢true tells)
+  committed-other (At t k) tells = absurd (false≢true tells)
 
-  of-read : OfRead (step s e)
-  unfolding start read write commit add abort
+  judge-tells-no-read : (failed : Bool) (left : ℕ) (leavers : List ℕ) → tellsRead (told (judgeAnswer failed left) leavers) ≡ false
+  judge-tells-no-read true left leavers = refl
+  judge-tells-no-read false left leavers = refl
+
+  judge-other : OfRead (judge s (e .number)) (judgeLeft s (e .number) .commits)
+  unfolding judge
+  judge-other tells = absurd (not-both tells (judge-tells-no-read (isQueuedFailed (s .table) theQueue (e .number)) _ _))
+
+  of-read : OfRead (step s e) (leaversAt s e)
+  unfolding start read write commit add enter abort
   of-read =
       step-by-cause s e OfRead
       (λ tells. absurd (false≢true tells))
-      (λ a. act-by-kind s e OfRead
+      (λ a. act-by-kind s e OfRead a
       (λ _ tells. absurd (false≢true tells))
       (λ reads _. (a, reads, refl))
       (λ _ tells. absurd (false≢true tells))
-      (λ _. judged-other (firstClash (s .table) (e .number)))
+      (λ _. committed-other (firstClash (s .table) (e .number)))
       (λ _ tells. absurd (false≢true tells))
+      (λ _ tells. absurd (false≢true tells))
+      (λ _. judge-other)
       (λ _ tells. absurd (false≢true tells)))
 
 -- ---- the two kinds of answers

@@ -5,7 +5,7 @@ use mathlib.Core.Path.{_≡_}
 use mathlib.Core.Bool.{true}
 use mathlib.Core.List.{List}
 use lib.ListN.{length}
-use Rattle.rules.specs.Card.{IsCharge}
+use Rattle.rules.specs.Card.{baseLength, shadowLength, IsCharge}
 use Rattle.rules.specs.Amount.{isAmount, mostAdded}
 use Rattle.rules.specs.Table.{started, actions}
 use Rattle.rules.specs.Sound.{Sound}
@@ -15,7 +15,7 @@ use Rattle.rules.specs.Tree.{topSum}
 use Rattle.rules.specs.Serial.Demand.{newOver}
 use Rattle.rules.specs.Balanced.{ledgerAfter}
 use Rattle.rules.proofs.Laws.Amounts.{amount-holds}
-use Rattle.rules.proofs.Sound.Kept.{new-sound, run-keeps-sound}
+use Rattle.rules.proofs.Demand.Proper.{new-proper, run-keeps-proper}
 use Rattle.rules.proofs.Tree.Numbers.{tally-at-most}
 use Rattle.rules.proofs.Tree.Magnitudes.{ownMagnitude, topSum-magnitude}
 use Rattle.rules.proofs.Tree.OwnAdds.{OwnAtMost, new-at-most, run-at-most}
@@ -31,8 +31,10 @@ small-sum {w} s k each =
     amount-holds (topSum w k) .1 (omega (arith, topSum-magnitude w s k, together, s .few))
 
 pub few-events-fit :
-    (base shadow : List ℕ) (es : List Event) → length es ≤ mostEvents →
+    (base shadow : List ℕ) → length base ≡ baseLength → length shadow ≡ shadowLength →
+    (es : List Event) → length es ≤ mostEvents →
     (k : ℕ) → IsCharge k → isAmount (topSum (ledgerAfter base shadow es .table) k) ≡ true
-few-events-fit base shadow es few k charge =
-    small-sum (run-keeps-sound (newOver base shadow) es new-sound) k
-    (λ m h. omega (arith, run-at-most charge (newOver base shadow) es 0 new-sound (new-at-most k) m h))
+few-events-fit base shadow baseFits shadowFits es few k charge =
+    let new = new-proper base shadow baseFits shadowFits in
+    small-sum (run-keeps-proper (newOver base shadow) es new .sound) k
+    (λ m h. omega (arith, run-at-most charge (newOver base shadow) es 0 new (new-at-most k) m h))

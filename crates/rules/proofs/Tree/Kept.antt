@@ -16,7 +16,7 @@ use Rattle.rules.specs.Tree.{children, committedChildren, addedUp}
 use Rattle.rules.specs.Serial.Demand.{newOver}
 use Rattle.rules.proofs.Demand.Proper.{Proper, step-keeps-proper}
 use Rattle.rules.proofs.Tree.Carried.{Carried}
-use Rattle.rules.proofs.Tree.Quiet.{quiet-carried}
+use Rattle.rules.proofs.Tree.Quiet.{calm-quiet, quiet-carried}
 use Rattle.rules.proofs.Tree.ByChange.{step-by-change}
 use Rattle.rules.proofs.Tree.Starting.{start-carried}
 use Rattle.rules.proofs.Tree.Committing.{commit-carried}
@@ -34,10 +34,12 @@ module _ {k : ℕ} (charge : IsCharge k) (opening : List ℕ) where
   step-carried : (s : Ledger) (e : Event) → Proper s → CarriedIn k opening s → CarriedIn k opening (step s e .after)
   unfolding committedUnder
   step-carried s e proper was =
-      step-by-change s e (proper .sound) charge (CarriedIn k opening)
-      (λ v shadow quiet. quiet-carried quiet was)
+      step-by-change charge (CarriedIn k opening)
+      (λ t v shadow calm. quiet-carried (calm-quiet calm))
+      (λ t here n may fits. commit-carried here may refl fits k charge)
+      (CarriedIn k opening) s e proper was (λ t carried. carried)
       (λ p. start-carried (proper .sound) (e .number) k charge p was)
-      (λ j fits. commit-carried proper j refl fits k charge was)
+      (λ v quiet. quiet-carried quiet was)
 
   pub run-carried : (s : Ledger) (es : List Event) → Proper s → CarriedIn k opening s → CarriedIn k opening (run s es .after)
   unfolding run

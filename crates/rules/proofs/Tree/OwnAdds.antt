@@ -16,8 +16,8 @@ use Rattle.rules.proofs.Laws.Amounts.{amount-zero, addable-holds}
 use Rattle.rules.proofs.Laws.Permitted.{Startable, Committable}
 use Rattle.rules.proofs.Sound.Starting.{start-own-adds, old-row, by-age}
 use Rattle.rules.proofs.Sound.Committing.{commit-started, commit-own-adds}
-use Rattle.rules.proofs.Sound.Kept.{step-keeps-sound}
-use Rattle.rules.proofs.Tree.Quiet.{Quiet}
+use Rattle.rules.proofs.Demand.Proper.{Proper, step-keeps-proper}
+use Rattle.rules.proofs.Tree.Quiet.{Quiet, Calm}
 use Rattle.rules.proofs.Tree.ByChange.{step-by-change}
 use Rattle.rules.proofs.Tree.Magnitudes.{magnitude, sum-magnitude}
 
@@ -28,6 +28,20 @@ OwnAtMost k c w = (m : ℕ) → IsStarted w m → magnitude (ownAdds w m k) ≤ 
 pub new-at-most : (k : ℕ) → OwnAtMost k 0 newTable
 unfolding newTable word
 new-at-most k m h = absurd (omega (arith, h))
+
+-- ---- a calm change and a commit add nothing
+
+calm-at-most : (k c : ℕ) {w v : List ℕ} → OwnAtMost k c w → Calm w v k → OwnAtMost k c v
+calm-at-most k c {w} was calm m h =
+    let before : IsStarted w m = (h .0, rw (calm .starts) at (h .1)) in
+    rw (calm .owns m before) (was m before)
+
+commit-at-most :
+    {k : ℕ} → IsCharge k → (c : ℕ) (w : List ℕ) (n p : ℕ) → Committable w n → OwnAtMost k c w → OwnAtMost k c (commitTable w n p)
+commit-at-most {k} charge c w n p judged was m h =
+    rw (commit-own-adds w n p (judged .own .0) m k charge) (was m (h .0, rw (commit-started w n p (judged .own .0)) at (h .1)))
+
+-- ---- any other change no more than an event may
 
 module _ {k : ℕ} (charge : IsCharge k) {w : List ℕ} (s : Sound w) {c : ℕ} (was : OwnAtMost k c w) where
   quiet-at-most : (v : List ℕ) → Quiet w v k → OwnAtMost k (mostAdded + c) v
@@ -40,35 +54,32 @@ module _ {k : ℕ} (charge : IsCharge k) {w : List ℕ} (s : Sound w) {c : ℕ} 
   start-at-most : (p : ℕ) → Startable w p → OwnAtMost k (mostAdded + c) (startTable w p)
   unfolding up dn
   start-at-most p permitted =
-      by-age w p s (permitted .room) (permitted .known) (permitted .alive) _
-      (λ m h.
-      rw (old-row w p s (permitted .room) (permitted .known) (permitted .alive) m (ownAddsField k) h (omega arith))
-      (omega (arith, was m h)))
+      let kept = old-row w p s (permitted .room) (permitted .known) (permitted .alive) (permitted .unqueued) in
+      by-age w p s (permitted .room) (permitted .known) (permitted .alive) (permitted .unqueued) _
+      (λ m h. rw (kept m (ownAddsField k) h (omega arith)) (omega (arith, was m h)))
       (rw (start-own-adds w p (s .long) (permitted .room) k charge, amount-zero) (omega arith))
-
-  commit-at-most : (n p : ℕ) → Committable w n → OwnAtMost k (mostAdded + c) (commitTable w n p)
-  commit-at-most n p judged m h =
-      rw (commit-own-adds w n p (judged .own .0) m k charge)
-      (omega (arith, was m (h .0, rw (commit-started w n p (judged .own .0)) at (h .1))))
 
 module _ {k : ℕ} (charge : IsCharge k) where
   step-at-most :
-      (s : Ledger) (e : Event) (c : ℕ) → Sound (s .table) → OwnAtMost k c (s .table) →
+      (s : Ledger) (e : Event) (c : ℕ) → Proper s → OwnAtMost k c (s .table) →
       OwnAtMost k (mostAdded + c) (step s e .after .table)
   unfolding committedUnder
-  step-at-most s e c sound was =
-      step-by-change s e sound charge (λ t. OwnAtMost k (mostAdded + c) (t .table))
-      (λ v shadow. quiet-at-most charge sound was v)
-      (start-at-most charge sound was (e .number))
-      (λ judged fits. commit-at-most charge sound was (e .number) _ judged)
+  step-at-most s e c proper was =
+      step-by-change charge (λ t. OwnAtMost k c (t .table))
+      (λ t v shadow calm before. calm-at-most k c before calm)
+      (λ t here n may fits before. commit-at-most charge c (t .table) n _ may before)
+      (λ t. OwnAtMost k (mostAdded + c) (t .table)) s e proper was
+      (λ t before m h. omega (arith, before m h))
+      (start-at-most charge (proper .sound) was (e .number))
+      (quiet-at-most charge (proper .sound) was)
 
   pub run-at-most :
-      (s : Ledger) (es : List Event) (c : ℕ) → Sound (s .table) → OwnAtMost k c (s .table) →
+      (s : Ledger) (es : List Event) (c : ℕ) → Proper s → OwnAtMost k c (s .table) →
       OwnAtMost k (mostAdded * length es + c) (run s es .after .table)
   unfolding run
-  run-at-most s [] c sound was m h = omega (arith, was m h)
-  run-at-most s (e ∷ es) c sound was m h =
+  run-at-most s [] c proper was m h = omega (arith, was m h)
+  run-at-most s (e ∷ es) c proper was m h =
       omega (
         arith,
-        run-at-most (step s e .after) es (mostAdded + c) (step-keeps-sound s e sound) (step-at-most s e c sound was) m h,
+        run-at-most (step s e .after) es (mostAdded + c) (step-keeps-proper s e proper) (step-at-most s e c proper was) m h,
       )

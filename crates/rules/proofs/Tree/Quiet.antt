@@ -1,5 +1,5 @@
--- A change of the table that starts and commits nothing, and adds to pending sums and own adds alike, carries the sums on.
--- Assumes nothing.
+-- A change of the table that starts and commits nothing carries the sums on: a calm one, which changes no sum, and a quiet one,
+-- which may add to pending sums and own adds alike. Assumes nothing.
 use Prim.Native.Nat.{ℕ}
 use mathlib.Core.Path.{_≡_, refl, sym, ap, ap₂, _∙_}
 use mathlib.Core.Bool.{true}
@@ -38,6 +38,24 @@ pub record Quiet (w v : List ℕ) (k : ℕ) : Type 0 where
   pub states : (m : ℕ) → IsStarted w m → isCommitted v m ≡ isCommitted w m
   pub settled : (m : ℕ) → IsStarted w m → isCommitted w m ≡ true → pendingWord v m k ≡ pendingWord w m k
   pub grown : (m : ℕ) → IsStarted w m → GrowAlike w v k m
+
+-- .. where no sum changes at all
+pub record Calm (w v : List ℕ) (k : ℕ) : Type 0 where
+  pub starts : started v ≡ started w
+  pub parents : (m : ℕ) → IsStarted w m → parentOf v m ≡ parentOf w m
+  pub states : (m : ℕ) → IsStarted w m → isCommitted v m ≡ isCommitted w m
+  pub pendings : (m : ℕ) → IsStarted w m → pendingWord v m k ≡ pendingWord w m k
+  pub owns : (m : ℕ) → IsStarted w m → ownAddsWord v m k ≡ ownAddsWord w m k
+
+pub calm-quiet : {w v : List ℕ} {k : ℕ} → Calm w v k → Quiet w v k
+calm-quiet {w} {v} {k} calm =
+    record {
+      starts = calm .starts;
+      parents = calm .parents;
+      states = calm .states;
+      settled = λ m h did. calm .pendings m h;
+      grown = λ m h. grow-nothing w v k m (calm .pendings m h) (calm .owns m h);
+    }
 
 pub quiet-carried : {w v : List ℕ} {k : ℕ} {opening now : ℤ} → Quiet w v k → Carried k opening w now → Carried k opening v now
 quiet-carried {w} {v} {k} {opening} quiet was =

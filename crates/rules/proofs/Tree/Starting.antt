@@ -23,7 +23,7 @@ module _ {w : List ℕ} (s : Sound w) (p k : ℕ) (charge : IsCharge k) (permitt
   v = startTable w p
 
   old-kept : (m g : ℕ) → IsStarted w m → g < width → word v m g ≡ word w m g
-  old-kept = old-row w p s (permitted .room) (permitted .known) (permitted .alive)
+  old-kept = old-row w p s (permitted .room) (permitted .known) (permitted .alive) (permitted .unqueued)
 
   brought-kept : (q m : ℕ) → IsStarted w m → brought v (pendings v k) q m ≡ brought w (pendings w k) q m
   brought-kept q m h =
@@ -74,6 +74,7 @@ module _ {w : List ℕ} (s : Sound w) (p k : ℕ) (charge : IsCharge k) (permitt
     pub start-carried : Carried k opening v now
     start-carried =
         record {
-          sums = by-age w p s (permitted .room) (permitted .known) (permitted .alive) _ old-carried new-carried;
+          sums =
+              by-age w p s (permitted .room) (permitted .known) (permitted .alive) (permitted .unqueued) _ old-carried new-carried;
           closing = was .closing ∙ ap (λ z. opening +ℤ z) (sym (children-kept 0));
         }

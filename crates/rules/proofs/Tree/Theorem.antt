@@ -67,4 +67,4 @@ module _
 
   -- after as many events as a day file may have
   pub reported-of-few : length es ≤ mostEvents → treeCause (after .table) (after .base) (after .shadow) base ≡ 0
-  reported-of-few few = balanced .reported (few-events-fit base shadow es few)
+  reported-of-few few = balanced .reported (few-events-fit base shadow baseFits shadowFits es few)

@@ -1,15 +1,14 @@
--- RULES 6.1, 6.2 and 6.4: the blocks, from S and the answers that S got; nothing is known here of table or stores.
+-- RULES 6.1, 6.2 and 6.4: the blocks, from S and what is told of its events; nothing is known here of table or stores.
 -- Assumes nothing.
 use Prim.Native.Nat.{ℕ, suc}
 use mathlib.Core.Bool.{cond}
 use mathlib.Core.List.{List, [], _∷_}
 use lib.Dec.{eqb}
-use Rattle.rules.specs.declared.Answer.{Answer}
 use Rattle.rules.specs.Amount.{amountIn}
 use Rattle.rules.specs.Event.{Event}
 use Rattle.rules.specs.Serial.Effect.{Effect, puts, adds}
 use Rattle.rules.specs.Serial.Block.{Block, empty, read, write, child}
-use Rattle.rules.specs.Serial.Told.{Told, itBegan, itRead, itWrote, itAdded, itCommitted, itDidNothing, told}
+use Rattle.rules.specs.Serial.Told.{Told, itBegan, itRead, itWrote, itAdded, itCommitted, itLetLeave, itDidNothing}
 
 -- f with v at n
 unfoldable pub put : {A : Type 0} → (ℕ → A) → ℕ → A → ℕ → A
@@ -38,6 +37,7 @@ commitsAt e (itBegan n) = []
 commitsAt e itRead = []
 commitsAt e itWrote = []
 commitsAt e itAdded = []
+commitsAt e (itLetLeave leavers) = leavers
 commitsAt e itDidNothing = []
 
 unfoldable pub laidAll : ℕ → Known → List ℕ → Known
@@ -55,22 +55,23 @@ stepped i e itRead c = grown c (e .number) (read (c .block (e .number)) i (e .ac
 stepped i e itWrote c = grown c (e .number) (write (c .block (e .number)) i (e .account) (puts (e .card)))
 stepped i e itAdded c = grown c (e .number) (write (c .block (e .number)) i (e .account) (adds (amountIn (e .card))))
 stepped i e itCommitted c = c
+stepped i e (itLetLeave leavers) c = c
 stepped i e itDidNothing c = c
 
--- one event, what its answer tells, and who commits at it
+-- one event, what is told of it, and who commits at it
 unfoldable pub collectOne : ℕ → Event → Told → List ℕ → Known → Known
 collectOne i e it commits c = laidAll i (stepped i e it c) commits
 
 -- the events from place i on
-unfoldable pub collectFrom : ℕ → List Event → List Answer → Known → Known
-collectFrom i [] answers c = c
+unfoldable pub collectFrom : ℕ → List Event → List Told → Known → Known
+collectFrom i [] its c = c
 collectFrom i (e ∷ es) [] c = c
-collectFrom i (e ∷ es) (a ∷ answers) c = collectFrom (suc i) es answers (collectOne i e (told a) (commitsAt e (told a)) c)
+collectFrom i (e ∷ es) (it ∷ its) c = collectFrom (suc i) es its (collectOne i e it (commitsAt e it) c)
 
 -- before S nothing is known
 unfoldable pub unknown : Known
 unknown = record { parent = λ n. 0; block = λ n. empty }
 
 -- the store's block, after all of S
-unfoldable pub storeBlock : List Event → List Answer → Block Effect
-storeBlock es answers = collectFrom 0 es answers unknown .block 0
+unfoldable pub storeBlock : List Event → List Told → Block Effect
+storeBlock es its = collectFrom 0 es its unknown .block 0

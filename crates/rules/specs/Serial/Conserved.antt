@@ -13,7 +13,7 @@ use Rattle.rules.specs.Event.{Event}
 use Rattle.rules.specs.Run.{run}
 use Rattle.rules.specs.Serial.Effect.{Effect, nothing, puts, adds}
 use Rattle.rules.specs.Serial.Reach.{Act, actsOfR}
-use Rattle.rules.specs.Serial.Demand.{newOver, answersTo}
+use Rattle.rules.specs.Serial.Demand.{newOver, toldOf}
 
 -- what an act adds to the account that it is on
 unfoldable pub addedBy : Option Effect → ℤ
@@ -34,4 +34,4 @@ pub record Conserved (base shadow : List ℕ) (es : List Event) : Type 0 where
   pub conserves :
       (k : ℕ) → IsCharge k →
       baseAmount (run (newOver base shadow) es .after .base) k
-      ≡ baseAmount base k +ℤ addedTo k (actsOfR 0 (λ n. 0) es (answersTo base shadow es))
+      ≡ baseAmount base k +ℤ addedTo k (actsOfR 0 (λ n. 0) es (toldOf base shadow es))

@@ -14,6 +14,7 @@ use Rattle.rules.specs.Event.{Event, startUnder}
 use Rattle.rules.specs.Look.{lookedCard}
 use Rattle.rules.specs.Ledger.{Ledger}
 use Rattle.rules.specs.Run.{run}
+use Rattle.rules.specs.Serial.Told.{Told, toldAll}
 use Rattle.rules.specs.Serial.Collect.{storeBlock}
 use Rattle.rules.specs.Serial.Schedule.{scheduleOf}
 use Rattle.rules.specs.Serial.Machine.{Given, serial}
@@ -34,6 +35,13 @@ newOver base shadow = record { table = newTable; base = base; shadow = shadow }
 abbrev pub answersTo : List ℕ → List ℕ → List Event → List Answer
 answersTo base shadow es = run (newOver base shadow) es .answers
 
+-- RULES 6.1: who commits there by leaving the queue, event by event, and what the serial run is told so
+abbrev pub leaversIn : List ℕ → List ℕ → List Event → List (List ℕ)
+leaversIn base shadow es = run (newOver base shadow) es .leavers
+
+abbrev pub toldOf : List ℕ → List ℕ → List Event → List Told
+toldOf base shadow es = toldAll (answersTo base shadow es) (leaversIn base shadow es)
+
 -- RULES 5: the sum in the answer at place i, where it has one
 abbrev pub sumGiven : List Answer → ℕ → Option ℤ
 sumGiven answers i = said (getD answers i Written) .sum
@@ -42,19 +50,19 @@ sumGiven answers i = said (getD answers i Written) .sum
 pub record Demand3 (base shadow : List ℕ) (es : List Event) : Type 0 where
   -- the serial run gives each of its reads the card that this read was given in S
   pub reads :
-      (g : Given) → List·Memᴰ g (serial es (answersTo base shadow es) base .given) →
+      (g : Given) → List·Memᴰ g (serial es (toldOf base shadow es) base .given) →
       g .card ≡ cardGiven (newOver base shadow) es (g .place)
   -- and, on a charge account, the amount
   pub amounts :
-      (g : Given) → List·Memᴰ g (serial es (answersTo base shadow es) base .given) →
+      (g : Given) → List·Memᴰ g (serial es (toldOf base shadow es) base .given) →
       g .amount ≡ sumGiven (answersTo base shadow es) (g .place)
   -- it leaves the base store that stands after S
-  pub store : serial es (answersTo base shadow es) base .base ≡ run (newOver base shadow) es .after .base
+  pub store : serial es (toldOf base shadow es) base .base ≡ run (newOver base shadow) es .after .base
   -- its operations hold, at each place of S, the read, write or add that took place there if that was an action's in R, and
   -- nothing otherwise
   pub exact :
       (i : ℕ) →
-      atPlace i (actsIn [] (scheduleOf (storeBlock es (answersTo base shadow es))))
-      ≡ atPlace i (actsOfR 0 (λ n. 0) es (answersTo base shadow es))
-  -- the operations of every block stand in the order of S, a child's whole block before the event of its commit
-  pub order : inOrder (length es) (storeBlock es (answersTo base shadow es)) ≡ true
+      atPlace i (actsIn [] (scheduleOf (storeBlock es (toldOf base shadow es))))
+      ≡ atPlace i (actsOfR 0 (λ n. 0) es (toldOf base shadow es))
+  -- the operations of every block stand in the order of S, a child's whole block at the event of its commit
+  pub order : inOrder (length es) (length es) (storeBlock es (toldOf base shadow es)) ≡ true

@@ -5,12 +5,12 @@ use mathlib.Core.Bool.{cond}
 use mathlib.Core.Option.{Option, none, some}
 use mathlib.Core.List.{List, [], _∷_, _++_}
 use lib.IntN.{ℤ, _+ℤ_}
-use Rattle.rules.specs.declared.Answer.{Answer}
 use Rattle.rules.specs.Range.{fold}
 use Rattle.rules.specs.Card.{accounts, isCharge, basePlace, cardAt, withCard}
 use Rattle.rules.specs.Amount.{withAmount, baseAmount}
 use Rattle.rules.specs.Event.{Event}
 use Rattle.rules.specs.Serial.Effect.{Effect, nothing, puts, adds, lay, cardOver, sumOver}
+use Rattle.rules.specs.Serial.Told.{Told}
 use Rattle.rules.specs.Serial.Collect.{put, storeBlock}
 use Rattle.rules.specs.Serial.Schedule.{Operation, begins, reads, writes, ends, scheduleOf}
 
@@ -80,7 +80,7 @@ unfoldable pub performAll : Machine → List (Operation Effect) → Machine
 performAll m [] = m
 performAll m (x ∷ xs) = performAll (perform m x) xs
 
--- RULES 6.1: the serial run, from S, its answers and the base store before S
-unfoldable pub serial : List Event → List Answer → List ℕ → Machine
-serial es answers opening =
-    performAll (record { base = opening; underWay = []; given = [] }) (scheduleOf (storeBlock es answers))
+-- RULES 6.1: the serial run, from S, what is told of its events, and the base store before S
+unfoldable pub serial : List Event → List Told → List ℕ → Machine
+serial es its opening =
+    performAll (record { base = opening; underWay = []; given = [] }) (scheduleOf (storeBlock es its))

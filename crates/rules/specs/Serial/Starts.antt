@@ -6,16 +6,15 @@ use mathlib.Core.Path.{_≡_}
 use mathlib.Core.Logic.{_⊎_, _↔_}
 use mathlib.Core.Bool.{Bool, true, false, cond, _&&_}
 use mathlib.Core.List.{List, [], _∷_, _++_, map}
-use Rattle.rules.specs.declared.Answer.{Answer}
 use Rattle.rules.specs.Range.{upFrom}
 use Rattle.rules.specs.Walk.{walkUp}
 use Rattle.rules.specs.Event.{Event}
-use Rattle.rules.specs.Serial.Told.{Told, itBegan, itRead, itWrote, itAdded, itCommitted, itDidNothing, told}
+use Rattle.rules.specs.Serial.Told.{Told, itBegan, itRead, itWrote, itAdded, itCommitted, itLetLeave, itDidNothing}
 use Rattle.rules.specs.Serial.Collect.{put, commitsAt}
 use Rattle.rules.specs.Serial.Reach.{parentsAfter, reachesStore, Act, actOf, actsOfR}
-use Rattle.rules.specs.Serial.Demand.{answersTo}
+use Rattle.rules.specs.Serial.Demand.{toldOf}
 
--- RULES 6.2: what the answers have told of the actions up to some place of S
+-- RULES 6.2: what has been told of the actions up to some place of S
 pub record Lineage : Type 0 where
   -- how many have started
   pub starts : ℕ
@@ -63,21 +62,22 @@ withStartAt e itRead h = h
 withStartAt e itWrote h = h
 withStartAt e itAdded h = h
 withStartAt e itCommitted h = h
+withStartAt e (itLetLeave leavers) h = h
 withStartAt e itDidNothing h = h
 
--- one event, and what its answer tells
+-- one event, and what is told of it
 unfoldable pub lineageOne : Event → Told → Lineage → Lineage
 lineageOne e it h = withCommits (withStartAt e it h) (commitsAt e it)
 
 -- the events from some place on
-unfoldable pub lineageFrom : List Event → List Answer → Lineage → Lineage
-lineageFrom [] answers h = h
+unfoldable pub lineageFrom : List Event → List Told → Lineage → Lineage
+lineageFrom [] its h = h
 lineageFrom (e ∷ es) [] h = h
-lineageFrom (e ∷ es) (a ∷ answers) h = lineageFrom es answers (lineageOne e (told a) h)
+lineageFrom (e ∷ es) (it ∷ its) h = lineageFrom es its (lineageOne e it h)
 
 -- all of S
-unfoldable pub lineageOf : List Event → List Answer → Lineage
-lineageOf es answers = lineageFrom es answers noStarts
+unfoldable pub lineageOf : List Event → List Told → Lineage
+lineageOf es its = lineageFrom es its noStarts
 
 -- RULES 6.3: the action of a start is in R where it and all above it have committed
 unfoldable pub isInR : Lineage → ℕ → Bool
@@ -99,28 +99,29 @@ givenAt itRead = []
 givenAt itWrote = []
 givenAt itAdded = []
 givenAt itCommitted = []
+givenAt (itLetLeave leavers) = []
 givenAt itDidNothing = []
 
 -- of each action, in the order of the starts: whether its number, followed from its start on, reaches the store
-unfoldable pub startsReach : (ℕ → ℕ) → List Event → List Answer → List Bool
-startsReach parent [] answers = []
+unfoldable pub startsReach : (ℕ → ℕ) → List Event → List Told → List Bool
+startsReach parent [] its = []
 startsReach parent (e ∷ es) [] = []
-startsReach parent (e ∷ es) (a ∷ answers) =
-    let now = parentsAfter e (told a) parent in
-    map (reachesStore now es answers) (givenAt (told a)) ++ startsReach now es answers
+startsReach parent (e ∷ es) (it ∷ its) =
+    let now = parentsAfter e it parent in
+    map (reachesStore now es its) (givenAt it) ++ startsReach now es its
 
 -- every read and write of the actions whose starts are chosen, in the order of S, from place i on
-unfoldable pub actsOfStarts : (ℕ → Bool) → ℕ → Lineage → List Event → List Answer → List Act
-actsOfStarts chosen i h [] answers = []
+unfoldable pub actsOfStarts : (ℕ → Bool) → ℕ → Lineage → List Event → List Told → List Act
+actsOfStarts chosen i h [] its = []
 actsOfStarts chosen i h (e ∷ es) [] = []
-actsOfStarts chosen i h (e ∷ es) (a ∷ answers) =
-    let now = lineageOne e (told a) h in
-    let later = actsOfStarts chosen (suc i) now es answers in
-    cond (chosen (now .startOf (e .number))) (actOf i e (told a) ++ later) later
+actsOfStarts chosen i h (e ∷ es) (it ∷ its) =
+    let now = lineageOne e it h in
+    let later = actsOfStarts chosen (suc i) now es its in
+    cond (chosen (now .startOf (e .number))) (actOf i e it ++ later) later
 
 -- what is told of the actions of S = es, given to a new table over the stores base and shadow
 abbrev pub lineageOver : List ℕ → List ℕ → List Event → Lineage
-lineageOver base shadow es = lineageOf es (answersTo base shadow es)
+lineageOver base shadow es = lineageOf es (toldOf base shadow es)
 
 -- What is claimed of these actions.
 pub record PlainR (base shadow : List ℕ) (es : List Event) : Type 0 where
@@ -132,9 +133,9 @@ pub record PlainR (base shadow : List ℕ) (es : List Event) : Type 0 where
       (x : ℕ) → 1 ≤ x → x ≤ lineageOver base shadow es .starts → chosen x ≡ isInR (lineageOver base shadow es) x
   -- an action's number reaches the store exactly where the action is in R
   pub reached :
-      startsReach (λ n. 0) es (answersTo base shadow es)
+      startsReach (λ n. 0) es (toldOf base shadow es)
       ≡ map (isInR (lineageOver base shadow es)) (upFrom 1 (lineageOver base shadow es .starts))
   -- the reads and writes of which demand 3 speaks are those of the actions in R
   pub acts :
-      actsOfR 0 (λ n. 0) es (answersTo base shadow es)
-      ≡ actsOfStarts (isInR (lineageOver base shadow es)) 0 noStarts es (answersTo base shadow es)
+      actsOfR 0 (λ n. 0) es (toldOf base shadow es)
+      ≡ actsOfStarts (isInR (lineageOver base shadow es)) 0 noStarts es (toldOf base shadow es)

@@ -5,7 +5,7 @@ use borrow.Author.Tests.{le-leb, lt-leb, le-ltb, lt-ltb, ne-eqb, not-true, not-f
 use native.Mathlib.Omega.{arith}
 use mathlib.Core.Path.{sym, _∙_}
 use Rattle.rules.specs.Table.{started}
-use Rattle.rules.specs.Event.{startCode, addCode}
+use Rattle.rules.specs.Event.{startCode, judgeCode}
 use Rattle.rules.specs.Cause.{earlyCauses}
 use Rattle.causes.proofs.Grouped.{causes-of-start, causes-of-kind}
 use Rattle.causes.proofs.cause.event_cause.Statement.{statement}
@@ -17,7 +17,7 @@ returns c = rw (lt-leb startCode _ (c .if1 .taken))
 
 returns-2 : tie.Need-returns-2
 unfolding earlyCauses
-returns-2 c = rw (le-leb startCode _ (c .before .if1 .left), lt-leb _ addCode (c .if2 .taken))
+returns-2 c = rw (le-leb startCode _ (c .before .if1 .left), lt-leb _ judgeCode (c .if2 .taken))
 
 last-start-requires : tie.Need-last-start-requires
 last-start-requires c κs = search needs
@@ -27,7 +27,7 @@ unfolding earlyCauses
 returns-3 c =
     rw (
       le-leb startCode _ (c .before .before .before .if1 .left),
-      le-leb _ addCode (c .before .before .if2 .left),
+      le-leb _ judgeCode (c .before .before .if2 .left),
       ← c .before .last-start .ensures,
       lt-ltb _ _ (c .if3 .taken),
     )
@@ -45,7 +45,7 @@ returns-5 c =
     let args = c .before .before .before .before .before .before .before .before .args in
     rw (
       le-leb startCode (args .code) (omega arith),
-      le-leb (args .code) addCode (omega arith),
+      le-leb (args .code) judgeCode (omega arith),
       c .if5 .taken,
       le-ltb (started (args .table .now)) 0 (omega arith),
       ne-eqb (args .code) startCode (c .before .if4 .left),
@@ -60,7 +60,7 @@ returns-6 c =
     let args = c .before .before .before .before .before .before .before .before .before .before .args in
     rw (
       le-leb startCode (args .code) (omega arith),
-      le-leb (args .code) addCode (omega arith),
+      le-leb (args .code) judgeCode (omega arith),
       le-ltb (started (args .table .now)) (args .number) (omega arith),
       ne-eqb (args .number) 0 (c .before .before .if5 .left),
       sym (c .before .is-live .ensures) ∙ not-true (c .before .is-live .result) (c .if6 .taken),

@@ -1,4 +1,4 @@
--- `start_cause` meets its contract: each exit gives the first of the two causes that applies. Assumes nothing.
+-- `start_cause` meets its contract: each exit gives the first of the three causes that applies. Assumes nothing.
 use borrow.Author.Needs.{needs}
 use borrow.Author.Tests.{le-leb, lt-leb, ne-eqb, not-true, not-false}
 use mathlib.Core.Path.{_≡_, sym, _∙_}
@@ -36,10 +36,26 @@ returns-2 : tie.Need-returns-2
 unfolding startCauses
 returns-2 c = rw (parent-alive (c .before .before), ← c .before .last-start .ensures, le-leb mostActions _ (c .if3 .taken))
 
+queued-cause-requires : tie.Need-queued-cause-requires
+queued-cause-requires c κs = search needs
+
 returns-3 : tie.Need-returns-3
 unfolding startCauses
-returns-3 c = rw (parent-alive (c .before .before), ← c .before .last-start .ensures, lt-leb mostActions _ (c .if3 .left))
+returns-3 c =
+    rw (
+      parent-alive (c .before .before .before),
+      ← c .before .before .last-start .ensures,
+      lt-leb mostActions _ (c .before .if3 .left),
+    )
+    (c .queued-cause .ensures)
 
 pub start-cause-spec : {M : Type 1} → statement M
 start-cause-spec =
-    tie.close (tie.spec is-live-requires returns last-start-requires returns-2 returns-3)
+    tie.close
+    (tie.spec
+    is-live-requires
+    returns
+    last-start-requires
+    returns-2
+    queued-cause-requires
+    returns-3)

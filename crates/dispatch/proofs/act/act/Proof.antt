@@ -1,19 +1,21 @@
 -- `act` meets its contract: where no early cause applies, its code's function has what it asks for and gives what the step
 -- makes of that code. Assumes nothing.
 use native.Mathlib.Omega.{arith}
+use mathlib.Core.Path.{refl}
 use mathlib.Core.Logic.{_≢_}
 use mathlib.Core.Bool.{_||_}
 use borrow.Author.Needs.{needs}
 use borrow.Author.Tests.{eq-eqb, ne-eqb, leb-true}
 use Rattle.rules.specs.Card.{firstCharge}
 use Rattle.rules.specs.Sound.{IsStarted, Sound}
-use Rattle.rules.specs.Event.{Event, eventOf, startCode, readCode, writeCode, addCode, isRead, isWrite}
+use Rattle.rules.specs.Event.{Event, eventOf, startCode, readCode, writeCode, addCode, judgeCode, isRead, isWrite}
 use Rattle.rules.specs.Ledger.{Ledger, ledgerOf}
-use Rattle.rules.specs.Step.{start, write, abort}
+use Rattle.rules.specs.Step.{start, write}
 use Rattle.rules.proofs.Laws.Tests.{or-inl, or-inr}
 use Rattle.rules.proofs.Laws.Allowed.{EarlyAllowed, early-allowed}
 use Rattle.causes.proofs.Grouped.{Accepted}
-use Rattle.dispatch.proofs.Summed.{step-of-start, step-of-read, step-of-write, step-of-commit, step-of-add, step-of-abort}
+use Rattle.dispatch.specs.Turn.{MayTurn}
+use Rattle.dispatch.proofs.Summed.{step-of-start, step-of-read, step-of-write, step-of-commit, step-of-add, step-of-turn}
 use Rattle.dispatch.proofs.act.act.Statement.{statement}
 use Rattle.dispatch.proofs.act.act.Tie as tie
 
@@ -36,6 +38,19 @@ event-allowed c = early-allowed _ _ (c .pre .1 .1)
 
 own-number : (c : tie.Start) → c .args .code ≢ startCode → IsStarted (c .args .table .now) (c .args .number)
 own-number c other = (event-allowed c .named (ne-eqb _ startCode other), event-allowed c .numberKnown)
+
+-- an enter, a judge or an abort that isn't refused may take its turn
+may-turn : (c : tie.Start) → c .args .code ≢ startCode → MayTurn (c .args .table .now) (c .args .code) (c .args .number)
+may-turn c other =
+    let event = event-allowed c in
+    let own = own-number c other in
+    record {
+      enters = λ is. (
+        record { begun = own; alive = event .alive (own .0); childless = event .childless (rw is refl) },
+        event .unqueued (rw is refl),
+      );
+      judges = λ is. event .judgeDue (eq-eqb _ judgeCode is) .0;
+    }
 
 start-requires : tie.Need-start-requires
 start-requires c κs =
@@ -160,24 +175,29 @@ returns-5 c =
       c .before .before .add .ensures .1,
     )
 
-abort-requires : tie.Need-abort-requires
-abort-requires c κs =
-    let sound = table-sound (c .before .before .before .before .before .before .before .before .before .before) in
-    record { long = sound .long; few = sound .few; below = sound .below }
+turn-requires : tie.Need-turn-requires
+turn-requires c κs =
+    let entry = c .before .before .before .before .before .before .before .before .before .before .before .before in
+    (table-sound entry, (entry .pre .1 .0, may-turn entry (c .before .before .before .before .before .before .before .if1 .left)))
 
 same-length-10 : tie.Need-same-length-10
 same-length-10 c = search needs
 
+same-length-11 : tie.Need-same-length-11
+same-length-11 c = search needs
+
+same-length-12 : tie.Need-same-length-12
+same-length-12 c = search needs
+
 returns-6 : tie.Need-returns-6
-unfolding abort
 returns-6 c =
-    let entry = c .before .before .before .before .before .before .before .before .before .before .before .before .before in
-    rw (
-      step-of-abort (ledgerAt entry) (eventAt entry) (accepted entry) (entry .pre .1 .1)
-          (c .before .before .before .before .before .before .before .before .if1 .left) (c .before .before .before .before .before .before .before .if2 .left) (c .before .before .before .before .before .before .if3 .left) (c .before .before .before .before .before .if4 .left) (c .before .before .before .before .if5 .left),
-      c .before .before .abort .ensures .0,
-      c .before .before .abort .ensures .1,
-    )
+    let turned = c .before .before .before .before .before .before in
+    let added = turned .before .before .before .before in
+    let entry = added .before .before .before .before .before .before .before .before .before in
+    rw (step-of-turn (ledgerAt entry) (eventAt entry) (accepted entry) (entry .pre .1 .1)
+    (added .before .before .before .before .if1 .left) (added .before .before .before .if2 .left) (added .before .before .if3 .left)
+    (added .before .if4 .left) (added .if5 .left))
+    (turned .turn .ensures)
 
 pub act-spec : {M : Type 1} → statement M
 act-spec =
@@ -202,6 +222,8 @@ act-spec =
     add-requires
     same-length-9
     returns-5
-    abort-requires
+    turn-requires
     same-length-10
+    same-length-11
+    same-length-12
     returns-6)

@@ -5,21 +5,22 @@ use mathlib.Core.Path.{_≡_}
 use mathlib.Core.Logic.{_≢_}
 use borrow.Author.Needs.{needs}
 use borrow.Author.Tests.{ne-eqb}
-use Rattle.rules.specs.declared.Answer.the-variants.{ReadSum}
+use Rattle.rules.specs.declared.Answer.the-variants.{JudgedFailed}
 use Rattle.rules.specs.Answer.{said}
-use Rattle.rules.specs.Encoding.{refusedKind, startedKind, readKind, writtenKind, committedKind, failedKind, abortedKind, addedKind}
+use Rattle.rules.specs.Encoding.{refusedKind, startedKind, readKind, writtenKind, committedKind, failedKind, abortedKind, addedKind, readSumKind, enteredKind, readyKind}
 use Rattle.listing.specs.Buffer.{wordOf}
 use Rattle.listing.proofs.lines.put_word.Statement.{statement}
 use Rattle.listing.proofs.lines.put_word.Tie as tie
 
--- the word of every number but the first eight, which are left out one by one
+-- the word of every number but the first eleven, which are left out one by one
 last-word :
     (kind : ℕ) →
-    ((((((((Unit {0} × (kind ≢ refusedKind)) × (kind ≢ startedKind)) × (kind ≢ readKind)) × (kind ≢ writtenKind))
-    × (kind ≢ committedKind)) × (kind ≢ failedKind)) × (kind ≢ abortedKind)) × (kind ≢ addedKind)) →
-    wordOf kind ≡ said (ReadSum 0 0 0) .word
+    (((((((((((Unit {0} × (kind ≢ refusedKind)) × (kind ≢ startedKind)) × (kind ≢ readKind)) × (kind ≢ writtenKind))
+    × (kind ≢ committedKind)) × (kind ≢ failedKind)) × (kind ≢ abortedKind)) × (kind ≢ addedKind)) × (kind ≢ readSumKind))
+    × (kind ≢ enteredKind)) × (kind ≢ readyKind)) →
+    wordOf kind ≡ said (JudgedFailed 0) .word
 unfolding wordOf
-last-word kind ((((((((_, refused), started), read), written), committed), failed), aborted), added) =
+last-word kind (((((((((((_, refused), started), read), written), committed), failed), aborted), added), readSum), entered), ready) =
     rw (
       ne-eqb kind refusedKind refused,
       ne-eqb kind startedKind started,
@@ -29,6 +30,9 @@ last-word kind ((((((((_, refused), started), read), written), committed), faile
       ne-eqb kind failedKind failed,
       ne-eqb kind abortedKind aborted,
       ne-eqb kind addedKind added,
+      ne-eqb kind readSumKind readSum,
+      ne-eqb kind enteredKind entered,
+      ne-eqb kind readyKind ready,
     )
 
 slice-aggregate-put-text : tie.Need-slice-aggregate-put-text
@@ -91,7 +95,28 @@ slice-aggregate-put-text-9 : tie.Need-slice-aggregate-put-text-9
 slice-aggregate-put-text-9 c = search needs
 
 put-text-requires-9 : tie.Need-put-text-requires-9
-put-text-requires-9 c κs =
+unfolding wordOf
+put-text-requires-9 c κs = rw (c .before .before .match .keys9) at (c .before .before .before .before .pre)
+
+slice-aggregate-put-text-10 : tie.Need-slice-aggregate-put-text-10
+slice-aggregate-put-text-10 c = search needs
+
+put-text-requires-10 : tie.Need-put-text-requires-10
+unfolding wordOf
+put-text-requires-10 c κs = rw (c .before .before .match .keys10) at (c .before .before .before .before .pre)
+
+slice-aggregate-put-text-11 : tie.Need-slice-aggregate-put-text-11
+slice-aggregate-put-text-11 c = search needs
+
+put-text-requires-11 : tie.Need-put-text-requires-11
+unfolding wordOf
+put-text-requires-11 c κs = rw (c .before .before .match .keys11) at (c .before .before .before .before .pre)
+
+slice-aggregate-put-text-12 : tie.Need-slice-aggregate-put-text-12
+slice-aggregate-put-text-12 c = search needs
+
+put-text-requires-12 : tie.Need-put-text-requires-12
+put-text-requires-12 c κs =
     rw (last-word _ (c .before .before .match .rest)) at (c .before .before .before .before .pre)
 
 same-length : tie.Need-same-length
@@ -154,9 +179,30 @@ same-length-9 : tie.Need-same-length-9
 same-length-9 c = search needs
 
 returns-9 : tie.Need-returns-9
-returns-9 c =
+unfolding wordOf
+returns-9 c = rw (c .before .before .before .before .before .match .keys9) (c .before .before .put-text9 .ensures)
+
+same-length-10 : tie.Need-same-length-10
+same-length-10 c = search needs
+
+returns-10 : tie.Need-returns-10
+unfolding wordOf
+returns-10 c = rw (c .before .before .before .before .before .match .keys10) (c .before .before .put-text10 .ensures)
+
+same-length-11 : tie.Need-same-length-11
+same-length-11 c = search needs
+
+returns-11 : tie.Need-returns-11
+unfolding wordOf
+returns-11 c = rw (c .before .before .before .before .before .match .keys11) (c .before .before .put-text11 .ensures)
+
+same-length-12 : tie.Need-same-length-12
+same-length-12 c = search needs
+
+returns-12 : tie.Need-returns-12
+returns-12 c =
     rw (last-word _ (c .before .before .before .before .before .match .rest))
-    (c .before .before .put-text9 .ensures)
+    (c .before .before .put-text12 .ensures)
 
 pub put-word-spec : {M : Type 1} → statement M
 put-word-spec =
@@ -180,6 +226,12 @@ put-word-spec =
     put-text-requires-8
     slice-aggregate-put-text-9
     put-text-requires-9
+    slice-aggregate-put-text-10
+    put-text-requires-10
+    slice-aggregate-put-text-11
+    put-text-requires-11
+    slice-aggregate-put-text-12
+    put-text-requires-12
     same-length
     returns
     same-length-2
@@ -197,4 +249,10 @@ put-word-spec =
     same-length-8
     returns-8
     same-length-9
-    returns-9)
+    returns-9
+    same-length-10
+    returns-10
+    same-length-11
+    returns-11
+    same-length-12
+    returns-12)

@@ -13,7 +13,7 @@ use Rattle.listing.proofs.tree.put_state.Statement.{statement}
 use Rattle.listing.proofs.tree.put_state.Tie as tie
 
 -- the word of every number but those two
-last-word : (state : ℕ) → ((Unit {0} × (state ≢ live)) × (state ≢ committed)) → stateWord state ≡ said (Aborted 0) .word
+last-word : (state : ℕ) → ((Unit {0} × (state ≢ live)) × (state ≢ committed)) → stateWord state ≡ said (Aborted 0 0) .word
 unfolding stateWord
 last-word state ((_, dead), uncommitted) = rw (ne-eqb state live dead, ne-eqb state committed uncommitted)
 

@@ -30,6 +30,15 @@ enum-told-2 c = search needs
 enum-known-a-7 : tie.Need-enum-known-a-7
 enum-known-a-7 c = search needs
 
+enum-told-3 : tie.Need-enum-told-3
+enum-told-3 c = search needs
+
+enum-known-a-8 : tie.Need-enum-known-a-8
+enum-known-a-8 c = search needs
+
+enum-known-a-9 : tie.Need-enum-known-a-9
+enum-known-a-9 c = search needs
+
 returns : tie.Need-returns
 returns c = rw (c .before .a .given .1)
 
@@ -57,6 +66,15 @@ returns-8 c = rw (c .enum-told2 .given .1)
 returns-9 : tie.Need-returns-9
 returns-9 c = rw (c .before .a7 .given .1)
 
+returns-10 : tie.Need-returns-10
+returns-10 c = rw (c .enum-told3 .given .1)
+
+returns-11 : tie.Need-returns-11
+returns-11 c = rw (c .before .a8 .given .1)
+
+returns-12 : tie.Need-returns-12
+returns-12 c = rw (c .before .a9 .given .1)
+
 pub words-spec : {M : Type 1} → statement M
 words-spec =
     tie.close
@@ -70,6 +88,9 @@ words-spec =
     enum-known-a-6
     enum-told-2
     enum-known-a-7
+    enum-told-3
+    enum-known-a-8
+    enum-known-a-9
     returns
     returns-2
     returns-3
@@ -78,4 +99,7 @@ words-spec =
     returns-6
     returns-7
     returns-8
-    returns-9)
+    returns-9
+    returns-10
+    returns-11
+    returns-12)

@@ -4,6 +4,7 @@ use borrow.Author.Needs.{needs}
 use borrow.Author.Tests.{eq-eqb, ne-eqb, le-leb, lt-leb}
 use Rattle.rules.specs.Table.{mostActions}
 use Rattle.rules.specs.Sound.{sound}
+use Rattle.rules.proofs.Laws.Negated.{failed, held}
 use Rattle.soundness.proofs.sound.is_sound.Statement.{statement}
 use Rattle.soundness.proofs.sound.is_sound.Tie as tie
 
@@ -43,14 +44,34 @@ all-sound-requires c κs = search needs
 returns-4 : tie.Need-returns-4
 unfolding sound
 returns-4 c =
+    let three = c .before .before in
     rw (
-      eq-eqb _ _ (c .before .before .before .before .before .before .if1 .left),
-      ← c .before .before .before .before .before .last-start .ensures,
-      le-leb _ mostActions (c .before .before .before .before .if2 .left),
-      ← c .before .before .before .count-committed .ensures,
-      ← c .before .before .counter .ensures,
-      le-leb _ _ (c .before .if3 .left),
-      c .all-sound .ensures,
+      eq-eqb _ _ (three .before .before .before .before .before .if1 .left),
+      ← three .before .before .before .before .last-start .ensures,
+      le-leb _ mostActions (three .before .before .before .if2 .left),
+      ← three .before .before .count-committed .ensures,
+      ← three .before .counter .ensures,
+      le-leb _ _ (three .if3 .left),
+      failed (c .before .all-sound .ensures) (c .if4 .taken),
+    )
+
+is-sound-queue-requires : tie.Need-is-sound-queue-requires
+is-sound-queue-requires c κs = search needs
+
+returns-5 : tie.Need-returns-5
+unfolding sound
+returns-5 c =
+    let four = c .before in
+    let three = four .before .before in
+    rw (
+      eq-eqb _ _ (three .before .before .before .before .before .if1 .left),
+      ← three .before .before .before .before .last-start .ensures,
+      le-leb _ mostActions (three .before .before .before .if2 .left),
+      ← three .before .before .count-committed .ensures,
+      ← three .before .counter .ensures,
+      le-leb _ _ (three .if3 .left),
+      held (four .before .all-sound .ensures) (four .if4 .left),
+      c .is-sound-queue .ensures,
     )
 
 pub is-sound-spec : {M : Type 1} → statement M
@@ -64,4 +85,6 @@ is-sound-spec =
     counter-requires
     returns-3
     all-sound-requires
-    returns-4)
+    returns-4
+    is-sound-queue-requires
+    returns-5)

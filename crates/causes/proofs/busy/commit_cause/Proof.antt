@@ -1,0 +1,34 @@
+-- `commit_cause` meets its contract: the causes of a busy action come first, and then 18 where the queue isn't empty.
+-- Assumes nothing.
+use native.Mathlib.Omega.{arith}
+use mathlib.Core.Path.{sym, _∙_}
+use borrow.Author.Needs.{needs}
+use borrow.Author.Tests.{eq-eqb, ne-eqb}
+use Rattle.causes.proofs.Grouped.{busy-refused, busy-passed}
+use Rattle.causes.proofs.busy.commit_cause.Statement.{statement}
+use Rattle.causes.proofs.busy.commit_cause.Tie as tie
+
+busy-cause-requires : tie.Need-busy-cause-requires
+busy-cause-requires c κs = search needs
+
+returns : tie.Need-returns
+returns c =
+    let asked = c .before .busy-cause .ensures in
+    asked ∙ sym (busy-refused _ _ (λ none. c .if1 .taken (asked ∙ none)))
+
+queue-length-requires : tie.Need-queue-length-requires
+queue-length-requires c κs = search needs
+
+returns-2 : tie.Need-returns-2
+returns-2 c =
+    let passed = busy-passed _ _ (sym (c .before .before .before .busy-cause .ensures) ∙ c .before .before .if1 .left) in
+    sym (passed ∙ rw (← c .before .queue-length .ensures, ne-eqb (c .before .queue-length .result) 0 (λ none. omega arith)))
+
+returns-3 : tie.Need-returns-3
+returns-3 c =
+    let passed = busy-passed _ _ (sym (c .before .before .before .busy-cause .ensures) ∙ c .before .before .if1 .left) in
+    sym (passed ∙ rw (← c .before .queue-length .ensures, eq-eqb (c .before .queue-length .result) 0 (omega arith)))
+
+pub commit-cause-spec : {M : Type 1} → statement M
+commit-cause-spec =
+    tie.close (tie.spec busy-cause-requires returns queue-length-requires returns-2 returns-3)

@@ -1,0 +1,37 @@
+-- `judge_cause` meets its contract: 17 where the action isn't queued or is ready, else 0. Assumes nothing.
+use mathlib.Core.Path.{sym, _∙_}
+use borrow.Author.Needs.{needs}
+use Rattle.rules.proofs.Laws.Negated.{failed, held}
+use Rattle.causes.specs.Groups.{judgeCauses}
+use Rattle.causes.proofs.busy.judge_cause.Statement.{statement}
+use Rattle.causes.proofs.busy.judge_cause.Tie as tie
+
+is-queued-requires : tie.Need-is-queued-requires
+is-queued-requires c κs = search needs
+
+returns : tie.Need-returns
+unfolding judgeCauses
+returns c = rw (failed (c .before .is-queued .ensures) (c .if1 .taken))
+
+is-queued-ready-requires : tie.Need-is-queued-ready-requires
+is-queued-ready-requires c κs = search needs
+
+returns-2 : tie.Need-returns-2
+unfolding judgeCauses
+returns-2 c =
+    rw (
+      held (c .before .before .before .is-queued .ensures) (c .before .before .if1 .left),
+      sym (c .before .is-queued-ready .ensures) ∙ c .if2 .taken,
+    )
+
+returns-3 : tie.Need-returns-3
+unfolding judgeCauses
+returns-3 c =
+    rw (
+      held (c .before .before .before .is-queued .ensures) (c .before .before .if1 .left),
+      sym (c .before .is-queued-ready .ensures) ∙ c .if2 .left,
+    )
+
+pub judge-cause-spec : {M : Type 1} → statement M
+judge-cause-spec =
+    tie.close (tie.spec is-queued-requires returns is-queued-ready-requires returns-2 returns-3)

@@ -1,0 +1,2 @@
+-- The events that the queue's rules carry out.
+pub mod Turn

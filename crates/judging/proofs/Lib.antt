@@ -1,0 +1,3 @@
+-- What the proofs of the calls on the queue go by.
+mod MetSiblings
+mod Leaving

@@ -1,0 +1,4 @@
+-- Facts that the proofs on a queue use.
+mod Positions
+mod Putting
+mod Closing

@@ -1,0 +1,188 @@
+-- What holds of those who wait holds when one more has entered, when one becomes ready whose verdict is good, and when some are
+-- taken out. Assumes nothing.
+use Prim.Native.Nat.{ℕ}
+use mathlib.Core.Path.{_≡_, refl, sym}
+use mathlib.Core.Logic.{_⊎_, inl, inr, ⊎-elim}
+use mathlib.Core.Bool.{Bool, true, false, not, cond, _&&_, false≢true}
+use mathlib.Core.List.{List, [], _∷_, _++_, map}
+use lib.Dec.{eqb}
+use borrow.Author.Tests.{eq-eqb, not-true}
+use Rattle.rules.specs.declared.Found.{Found}
+use Rattle.rules.specs.declared.Found.the-variants.{Nothing, At}
+use Rattle.rules.specs.Range.{any, filter}
+use Rattle.rules.specs.Card.{accountCount, accounts}
+use Rattle.rules.specs.Table.{hasRead, hasWritten}
+use Rattle.rules.specs.Queue.{theQueue, Entry, good, failed, hasFailed, ready, isReady, isOf, queue, isQueued, isQueuedFailed, withQueue, newEntry, withTail, readied, withReady, keepsPlace, withoutBelow}
+use Rattle.rules.specs.Sound.{SoundQueue}
+use Rattle.rules.specs.Ledger.{Ledger, withTable}
+use Rattle.rules.specs.Clash.{isClear, firstClash}
+use Rattle.rules.specs.Verdict.{meets, isMetBy, isMetInQueue, verdictOf}
+use Rattle.rules.specs.Step.{takenOut, enter}
+use Rattle.rules.proofs.Laws.Tests.{and-left, and-right, and-both, and-fails, or-neither, not-both, cond-holds}
+use Rattle.rules.proofs.Laws.Ranges.{any-at}
+use Rattle.rules.proofs.Laws.Sets.{account-within}
+use Rattle.rules.proofs.Laws.Each.{Each, each-all, each-mapped}
+use Rattle.rules.proofs.Laws.Permitted.{Committable}
+use Rattle.rules.proofs.Sound.QueueChanges.{queue-change, tail-queue, tail-change, readied-number, ready-queue, ready-change, without-queue, without-change}
+use Rattle.rules.proofs.Demand.Proper.{Proper}
+use Rattle.rules.proofs.Demand.Drops.{queue-rows}
+use Rattle.rules.proofs.Demand.Views.{RowKept}
+use Rattle.rules.proofs.Demand.Passes.{no-clash-passes}
+use Rattle.rules.proofs.Demand.Waiting.{Here, Behind, Waits, LeftAlone, waits-alone, NoneCommits, row-alone, waits-filter, waits-append}
+use Rattle.rules.proofs.Demand.WaitingSteps.{Waiting, each-listed}
+
+-- what follows where a test fails holds of each where none passes it
+each-failing :
+    (P : Entry → Type 0) (f : Entry → Bool) (es : List Entry) → any f es ≡ false → ((e : Entry) → f e ≡ false → P e) → Each P es
+unfolding Each any
+each-failing P f [] none follows = tt
+each-failing P f (e ∷ es) none follows =
+    let (here, later) = or-neither (f e) (any f es) none in
+    (follows e here, each-failing P f es later follows)
+
+-- ---- a queue put in
+
+module _
+    (s : Ledger) (proper : Proper s) (es : List Entry) (line : SoundQueue (withQueue (s .table) theQueue es) theQueue)
+    (stands : queue (withQueue (s .table) theQueue es) theQueue ≡ es) where
+  abbrev given : Ledger
+  given = withTable s (withQueue (s .table) theQueue es)
+
+  none-commits : NoneCommits (s .table) (given .table)
+  none-commits m h done =
+      (rw (queue-change (s .table) (proper .sound) es line 0 .sameStarted) at h, queue-rows s proper es line m (h .0))
+
+  listed-row : (e : Entry) → any (isOf (e .number)) es ≡ true → RowKept (s .table) (given .table) (e .number)
+  unfolding isQueued
+  listed-row e listed = queue-rows s proper es line (e .number) (line .waits (e .number) (rw stands listed) .begun .0)
+
+  -- what holds of the entries before holds of those who wait then
+  given-waits : Waits s es → Waiting (withTable s (withQueue (s .table) theQueue es))
+  given-waits waits =
+      rw stands
+      (waits-alone s given es
+      (each-listed (LeftAlone s given) es (λ e listed. row-alone s given none-commits e (listed-row e listed))) waits)
+
+module _ (s : Ledger) (proper : Proper s) where
+  abbrev w : List ℕ
+  w = s .table
+
+  -- ---- one more at the tail
+
+  module _ (n : ℕ) (free : Committable w n) where
+    -- the verdict is good where there is no clash and none who waits is in the way
+    good-verdict : hasFailed (newEntry n (verdictOf w theQueue n)) ≡ false → (isClear (firstClash w n) && not (isMetInQueue w theQueue n)) ≡ true
+    unfolding verdictOf
+    good-verdict = by-verdict (isClear (firstClash w n) && not (isMetInQueue w theQueue n))
+      where
+        by-verdict : (b : Bool) → not (eqb (cond b good failed) good) ≡ false → b ≡ true
+        by-verdict true fine = refl
+        by-verdict false fine = sym fine
+
+    clear-none : (f : Found) → isClear f ≡ true → f ≡ Nothing
+    clear-none Nothing clear = refl
+    clear-none (At t k) clear = absurd (false≢true clear)
+
+    abbrev newest : Entry
+    newest = newEntry n (verdictOf w theQueue n)
+
+    newest-here : Here s newest
+    newest-here =
+        record {
+          earned = λ ready. absurd (false≢true ready);
+          passes = λ fine. no-clash-passes s n (clear-none (firstClash w n) (and-left (isClear (firstClash w n)) _ (good-verdict fine)));
+        }
+
+    -- who isn't in the way has written nothing that n has read
+    unmet-behind : hasFailed newest ≡ false → (e : Entry) → isMetBy w n (e .number) ≡ false → Behind s e newest
+    unfolding isMetBy meets accounts
+    unmet-behind fine e unmet _ siblings k account written has =
+        not-both
+        (and-both (eq-eqb _ _ (sym siblings))
+        (any-at (λ j. hasWritten w (e .number) j && hasRead w n j) 0 accountCount k (account-within account) (and-both written has)))
+        unmet
+
+    newest-behind : (b : Bool) → hasFailed newest ≡ b → Each (λ e. Behind s e newest) (queue w theQueue)
+    unfolding isMetInQueue
+    newest-behind true not-good = each-all (λ e. Behind s e newest) (λ e fine. absurd (not-both not-good fine)) (queue w theQueue)
+    newest-behind false fine =
+        each-failing (λ e. Behind s e newest) (λ e. isMetBy w n (e .number)) (queue w theQueue)
+        (not-true _ (and-right (isClear (firstClash w n)) _ (good-verdict fine))) (unmet-behind fine)
+
+    pub waits-enter : Waiting s → Waiting (enter s n .after)
+    unfolding enter withTail
+    waits-enter waits =
+        given-waits s proper (queue w theQueue ++ (newest ∷ []))
+        (tail-change (proper .sound) n free (verdictOf w theQueue n) 0 .line)
+        (tail-queue (proper .sound) n free (verdictOf w theQueue n))
+        (waits-append s (queue w theQueue) newest waits newest-here (newest-behind (hasFailed newest) refl))
+
+  -- ---- one becomes ready
+
+  module _ (n : ℕ) where
+    readied-verdict : (e : Entry) → readied n e .verdict ≡ e .verdict
+    unfolding readied
+    readied-verdict e = cond-holds (λ (x : Entry). x .verdict ≡ e .verdict) (isOf n e) (λ _. refl) (λ _. refl)
+
+    -- a ready one was ready before, or is n's
+    readied-ready : (e : Entry) → isReady (readied n e) ≡ true → (isOf n e ≡ true) ⊎ (isReady e ≡ true)
+    unfolding readied
+    readied-ready e = by-number (isOf n e)
+      where
+        by-number :
+            (b : Bool) → isReady (cond b (record { number = e .number; verdict = e .verdict; readiness = ready }) e) ≡ true →
+            (b ≡ true) ⊎ (isReady e ≡ true)
+        by-number true now = inl refl
+        by-number false now = inr now
+
+    -- whose verdict is good
+    readied-here : (e : Entry) → (isOf n e && hasFailed e) ≡ false → Here s e → Here s (readied n e)
+    readied-here e fine here =
+        record {
+          earned = λ now.
+              rw (readied-verdict e) (⊎-elim (and-fails (isOf n e) (hasFailed e) .0 fine) (here .earned) (readied-ready e now));
+          passes = λ good-one. rw (readied-number (proper .sound) n e) (here .passes (rw (readied-verdict e) at good-one));
+        }
+
+    readied-behind : (e d : Entry) → Behind s e d → Behind s (readied n e) (readied n d)
+    readied-behind e d behind =
+        rw (readied-number (proper .sound) n e, readied-number (proper .sound) n d, readied-verdict d) behind
+
+    waits-readied :
+        (es : List Entry) → any (λ e. isOf n e && hasFailed e) es ≡ false → Waits s es → Waits s (map (readied n) es)
+    unfolding Waits any
+    waits-readied [] fine waits = tt
+    waits-readied (e ∷ es) fine (here, behind, rest) =
+        let (first, later) = or-neither (isOf n e && hasFailed e) (any (λ d. isOf n d && hasFailed d) es) fine in (
+          readied-here e first here,
+          each-mapped (Behind s e) (Behind s (readied n e)) (readied n) (λ d. readied-behind e d) es behind,
+          waits-readied es later rest,
+        )
+
+    pub waits-ready : isQueuedFailed w theQueue n ≡ false → Waiting s → Waiting (withTable s (withReady w theQueue n))
+    unfolding withReady isQueuedFailed
+    waits-ready fine waits =
+        given-waits s proper (map (readied n) (queue w theQueue)) (ready-change (proper .sound) n 0 .line) (ready-queue (proper .sound) n)
+        (waits-readied (queue w theQueue) fine waits)
+
+  -- ---- some are taken out
+
+  -- what holds of those who wait holds also after, of those taken out too
+  pub waits-after-out : (n : ℕ) → Waiting s → Waits (takenOut s theQueue n) (queue w theQueue)
+  unfolding withoutBelow isQueued
+  waits-after-out n waits =
+      let fewer = filter (keepsPlace w n) (queue w theQueue) in
+      let line = without-change (proper .sound) n 0 .line in
+      let t = takenOut s theQueue n in
+      waits-alone s t (queue w theQueue)
+      (each-listed (LeftAlone s t) (queue w theQueue)
+      (λ e listed.
+      row-alone s t (none-commits s proper fewer line (without-queue (proper .sound) n)) e
+      (queue-rows s proper fewer line (e .number) (proper .sound .line .waits (e .number) listed .begun .0))))
+      waits
+
+  pub waits-out : (n : ℕ) → Waiting s → Waiting (takenOut s theQueue n)
+  unfolding withoutBelow
+  waits-out n waits =
+      given-waits s proper (filter (keepsPlace w n) (queue w theQueue)) (without-change (proper .sound) n 0 .line)
+      (without-queue (proper .sound) n) (waits-filter s (keepsPlace w n) (queue w theQueue) waits)

@@ -1,0 +1,160 @@
+-- What holds of those who wait stays so, step by step, as long as nobody commits; and it holds when one more has entered.
+-- Assumes nothing.
+use Prim.Native.Nat.{ℕ, _+_, _≤_}
+use native.Mathlib.Omega.{arith}
+use native.Mathlib.Decide.{ℕ-discrete}
+use mathlib.Core.Path.{_≡_, refl, sym, _∙_}
+use mathlib.Core.Logic.{_≢_}
+use mathlib.Core.Bool.{true, false}
+use mathlib.Core.List.{List, [], _∷_}
+use lib.Dec.{eqb}
+use borrow.Author.Tests.{eqb-true, eq-eqb}
+use Rattle.rules.specs.Range.{any}
+use Rattle.rules.specs.Table.{committed, aborted, started, stateField, stateOf, withState, isLive, isCommitted}
+use Rattle.rules.specs.Walk.{isAbortedBy}
+use Rattle.rules.specs.Queue.{theQueue, Entry, isOf, queue, isQueued}
+use Rattle.rules.specs.Sound.{IsStarted}
+use Rattle.rules.specs.Ledger.{Ledger, withTable}
+use Rattle.rules.specs.Step.{startTable, start, readTable, read, abortTable, failedLedger}
+use Rattle.rules.specs.Serial.Effect.{Effect}
+use Rattle.rules.proofs.Laws.Tests.{and-left, or-inl, or-inr, not-both, false-of-not-true}
+use Rattle.rules.proofs.Laws.Words.{word-same, word-other-row}
+use Rattle.rules.proofs.Laws.Queue.{SameLine, queue-kept}
+use Rattle.rules.proofs.Laws.Each.{Each}
+use Rattle.rules.proofs.Laws.Permitted.{Startable, Touchable, Committable}
+use Rattle.rules.proofs.Sound.TableChanges.{live-uncommitted}
+use Rattle.rules.proofs.Sound.Starting.{start-keeps-row, start-line, start-started, start-state}
+use Rattle.rules.proofs.Sound.Reading.{read-keeps-field, read-keeps-row, read-line, read-change}
+use Rattle.rules.proofs.Sound.Judging.{fail-line, fail-change}
+use Rattle.rules.proofs.Sound.Aborting.{abort-keeps-row, abort-keeps-committed, abort-line, abort-change}
+use Rattle.rules.proofs.Demand.Proper.{Proper}
+use Rattle.rules.proofs.Demand.Views.{RowKept}
+use Rattle.rules.proofs.Demand.Entering.{Entering}
+use Rattle.rules.proofs.Demand.Waiting.{Waits, LeftAlone, waits-alone, NoneCommits, row-alone}
+
+-- of all who wait
+abbrev pub Waiting : Ledger → Type 0
+Waiting s = Waits s (queue (s .table) theQueue)
+
+-- what holds of each number that is listed holds of each entry
+pub each-listed : (P : Entry → Type 0) (es : List Entry) → ((e : Entry) → any (isOf (e .number)) es ≡ true → P e) → Each P es
+unfolding Each any
+each-listed P [] every = tt
+each-listed P (e ∷ es) every =
+    (every e (or-inl _ (eq-eqb (e .number) (e .number) refl)), each-listed P es (λ d listed. every d (or-inr (eqb (d .number) (e .number)) listed)))
+
+-- ---- a step that keeps the queue
+
+pub waiting-kept :
+    (s t : Ledger) → SameLine (s .table) (t .table) theQueue → NoneCommits (s .table) (t .table) →
+    ((X : ℕ) → isQueued (s .table) theQueue X ≡ true → RowKept (s .table) (t .table) X) → Waiting s → Waiting t
+unfolding isQueued
+waiting-kept s t same none rows waits =
+    rw (queue-kept (s .table) (t .table) theQueue (omega arith) same)
+    (waits-alone s t (queue (s .table) theQueue)
+    (each-listed (LeftAlone s t) (queue (s .table) theQueue) (λ e listed. row-alone s t none e (rows (e .number) listed))) waits)
+
+-- where n hasn't committed in v, and all others keep their words, nobody commits
+others-kept :
+    (w v : List ℕ) (n : ℕ) → started v ≡ started w → (isCommitted v n ≡ true → ⊥) → ((m : ℕ) → 1 ≤ m → m ≢ n → RowKept w v m) →
+    NoneCommits w v
+others-kept w v n same unfinished rows m begun done =
+    (rw same at begun, rows m (begun .0) (λ it. unfinished (rw it at done)))
+
+module _ (s : Ledger) (proper : Proper s) where
+  abbrev w : List ℕ
+  w = s .table
+
+  -- nor is one who waits
+  waiting-other : {n : ℕ} → isQueued w theQueue n ≡ false → (X : ℕ) → isQueued w theQueue X ≡ true → X ≢ n
+  waiting-other unqueued X queued same = not-both queued (rw same unqueued)
+
+  waiting-started : (X : ℕ) → isQueued w theQueue X ≡ true → IsStarted w X
+  waiting-started X queued = proper .sound .line .waits X queued .begun
+
+  -- a start
+  module _ (p : ℕ) (permitted : Startable w p) where
+    old-row : (m : ℕ) → IsStarted w m → RowKept w (startTable w p) m
+    old-row m begun g inside = start-keeps-row w p m g (omega arith) (begun .0) (λ z. omega (arith, begun))
+
+    old-committed : NoneCommits w (startTable w p)
+    old-committed m begun done = cases (ℕ-discrete m (started w + 1))
+      where
+        cases : Dec (m ≡ started w + 1) → IsStarted w m × RowKept w (startTable w p) m
+        cases (yes new) =
+            absurd
+            (live-uncommitted (startTable w p) m
+            (rw new (eq-eqb _ _ (start-state w p (proper .sound .long) (permitted .room)))) done)
+        cases (no old) =
+            let was : IsStarted w m = omega (arith, begun, start-started w p (proper .sound .long) (permitted .room)) in
+            (was, old-row m was)
+
+    pub waits-start : Waiting s → Waiting (start s p .after)
+    unfolding start
+    waits-start =
+        waiting-kept s (withTable s (startTable w p)) (start-line w p) old-committed (λ X queued. old-row X (waiting-started X queued))
+
+  -- a read
+  module _ (n k : ℕ) (permitted : Touchable w n k) where
+    read-row : (m : ℕ) → 1 ≤ m → m ≢ n → RowKept w (readTable w n k) m
+    read-row m _ other g inside = read-keeps-row w n k (permitted .account) m g (omega arith) other
+
+    reader-live : isLive (readTable w n k) n ≡ true
+    reader-live =
+        rw (read-keeps-field w n k (permitted .account) n stateField (omega arith) (λ z. omega arith)) (permitted .alive)
+
+    pub waits-read : Waiting s → Waiting (read s n k .after)
+    unfolding read
+    waits-read =
+        let change = read-change w n k (permitted .account) (proper .sound) (permitted .own) in
+        waiting-kept s (withTable s (readTable w n k)) (read-line w n k (permitted .account) (proper .sound) (permitted .own))
+        (others-kept w (readTable w n k) n (change .sameStarted) (live-uncommitted (readTable w n k) n reader-live) read-row)
+        (λ X queued. read-row X (waiting-started X queued .0) (waiting-other (permitted .unqueued) X queued))
+
+  -- a write or an add
+  pub waits-entering :
+      (n k : ℕ) → Touchable w n k → (t : Ledger) (f : Effect) → Entering s t n k f → Waiting s → Waiting t
+  waits-entering n k permitted t f enters =
+      let still-live : isLive (t .table) n ≡ true = rw (enters .fields n stateField (omega arith)) (permitted .alive) in
+      waiting-kept s t (enters .sameLine)
+      (others-kept w (t .table) n (enters .change .sameStarted) (live-uncommitted (t .table) n still-live) (λ m _. enters .rows m))
+      (λ X queued. enters .rows X (waiting-other (permitted .unqueued) X queued))
+
+  -- an action that doesn't wait fails
+  module _ (n : ℕ) (free : Committable w n) where
+    fail-row : (m : ℕ) → 1 ≤ m → m ≢ n → RowKept w (withState w n aborted) m
+    fail-row m _ other g inside = word-other-row w n m stateField g aborted (omega arith) (omega arith) other
+
+    failed-uncommitted : isCommitted (withState w n aborted) n ≡ true → ⊥
+    failed-uncommitted done =
+        let failed : stateOf (withState w n aborted) n ≡ aborted =
+        word-same w n stateField aborted (proper .sound .long) (omega (arith, free .own, proper .sound .few)) (omega arith) in
+        omega (arith, eqb-true (stateOf (withState w n aborted) n) committed done)
+
+    pub waits-fail : Waiting s → Waiting (failedLedger s n)
+    waits-fail =
+        waiting-kept s (failedLedger s n) (fail-line w (proper .sound) n free)
+        (others-kept w (withState w n aborted) n (fail-change w (proper .sound) n free .sameStarted) failed-uncommitted fail-row)
+        (λ X queued. fail-row X (waiting-started X queued .0) (waiting-other (free .unqueued) X queued))
+
+  -- an abort that reaches nobody who waits
+  module _ (n : ℕ) (spared : (m : ℕ) → isQueued w theQueue m ≡ true → isAbortedBy w n m ≡ false) where
+    unreached-row : (m : ℕ) → isAbortedBy w n m ≡ false → RowKept w (abortTable w n) m
+    unreached-row m out g inside = abort-keeps-row w n m g (omega arith) (λ _ reached. not-both reached out)
+
+    -- whom it reaches hasn't committed
+    committed-unreached : (m : ℕ) → IsStarted w m → isCommitted (abortTable w n) m ≡ true → isAbortedBy w n m ≡ false
+    committed-unreached m begun done =
+        false-of-not-true _
+        (λ reached.
+        live-uncommitted w m (and-left (isLive w m) _ reached) (sym (abort-keeps-committed w n (proper .sound) m begun) ∙ done))
+
+    abort-none-commits : NoneCommits w (abortTable w n)
+    abort-none-commits m begun done =
+        let was : IsStarted w m = rw (abort-change w n (proper .sound) spared .sameStarted) at begun in
+        (was, unreached-row m (committed-unreached m was done))
+
+    pub waits-abort : Waiting s → Waiting (withTable s (abortTable w n))
+    waits-abort =
+        waiting-kept s (withTable s (abortTable w n)) (abort-line w n (proper .sound)) abort-none-commits
+        (λ X queued. unreached-row X (spared X queued))

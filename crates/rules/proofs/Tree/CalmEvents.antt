@@ -1,0 +1,86 @@
+-- A read, a write, a failed commit, an abort and a change of the queue start and commit nothing, and change no sum. Assumes
+-- nothing.
+use Prim.Native.Nat.{ℕ, _<_}
+use native.Mathlib.Omega.{arith}
+use mathlib.Core.Path.{_≡_, ap}
+use mathlib.Core.Logic.{inl, inr, _≢_}
+use mathlib.Core.List.{List}
+use lib.Dec.{eqb}
+use Rattle.rules.specs.Card.{firstCharge, IsCharge}
+use Rattle.rules.specs.Table.{actionWidth, width, word, committed, aborted, withState, startedField, parentField, stateField, pendingField, ownAddsField, isCommitted}
+use Rattle.rules.specs.Queue.{theQueue, withTail, withReady, withoutBelow}
+use Rattle.rules.specs.Sound.{IsStarted, Sound}
+use Rattle.rules.specs.Step.{readTable, writeTable, abortTable}
+use Rattle.rules.proofs.Laws.Permitted.{Touchable, Committable}
+use Rattle.rules.proofs.Sound.QueueChanges.{OffLength, tail-keeps, ready-keeps, without-keeps}
+use Rattle.rules.proofs.Sound.Reading.{read-keeps-field}
+use Rattle.rules.proofs.Sound.Writing.{write-keeps-field}
+use Rattle.rules.proofs.Sound.Judging.{fail-keeps-field, fail-committed}
+use Rattle.rules.proofs.Sound.Aborting.{abort-keeps-field, abort-keeps-committed}
+use Rattle.rules.proofs.Tree.Quiet.{Calm}
+
+module _ {w : List ℕ} (s : Sound w) (n k : ℕ) (charge : IsCharge k) where
+  -- ---- entries
+
+  pub read-calm : (j : ℕ) → Touchable w n j → Calm w (readTable w n j) k
+  read-calm j p =
+      let kept = read-keeps-field w n j (p .account) in
+      record {
+        starts = kept 0 startedField (omega arith) (λ z. omega arith);
+        parents = λ m h. kept m parentField (omega arith) (λ z. omega arith);
+        states = λ m h. ap (λ x. eqb x committed) (kept m stateField (omega arith) (λ z. omega arith));
+        pendings = λ m h. kept m (pendingField k) (omega arith) (λ z. omega (arith, p .account));
+        owns = λ m h. kept m (ownAddsField k) (omega arith) (λ z. omega (arith, p .account));
+      }
+
+  pub write-calm : (j : ℕ) → Touchable w n j → j < firstCharge → Calm w (writeTable w n j) k
+  write-calm j p below =
+      let kept = write-keeps-field w s n j (p .own) (p .alive) (p .account) in
+      record {
+        starts = kept 0 startedField (omega arith) (λ z. omega arith);
+        parents = λ m h. kept m parentField (omega arith) (λ z. omega arith);
+        states = λ m h. ap (λ x. eqb x committed) (kept m stateField (omega arith) (λ z. omega arith));
+        pendings = λ m h. kept m (pendingField k) (omega arith) (λ z. omega arith);
+        owns = λ m h. kept m (ownAddsField k) (omega arith) (λ z. omega arith);
+      }
+
+  -- ---- states, where none commits
+
+  states-calm :
+      {v : List ℕ} → ((m g : ℕ) → g < width → g ≢ stateField → word v m g ≡ word w m g) →
+      ((m : ℕ) → IsStarted w m → isCommitted v m ≡ isCommitted w m) → Calm w v k
+  states-calm kept states =
+      record {
+        starts = kept 0 startedField (omega arith) (λ z. omega arith);
+        parents = λ m h. kept m parentField (omega arith) (λ z. omega arith);
+        states = states;
+        pendings = λ m h. kept m (pendingField k) (omega arith) (λ z. omega arith);
+        owns = λ m h. kept m (ownAddsField k) (omega arith) (λ z. omega arith);
+      }
+
+  pub fail-calm : Committable w n → Calm w (withState w n aborted) k
+  fail-calm j = states-calm (fail-keeps-field w s n j) (λ m h. fail-committed w s n j m (h .0))
+
+  pub abort-calm : Calm w (abortTable w n) k
+  abort-calm = states-calm (abort-keeps-field w n) (abort-keeps-committed w n s)
+
+  -- ---- the queue
+
+  queue-calm : {v : List ℕ} → ((m g : ℕ) → g < actionWidth → OffLength m g → word v m g ≡ word w m g) → Calm w v k
+  queue-calm kept =
+      record {
+        starts = kept 0 startedField (omega arith) (inr (λ z. omega arith));
+        parents = λ m h. kept m parentField (omega arith) (inl (h .0));
+        states = λ m h. ap (λ x. eqb x committed) (kept m stateField (omega arith) (inl (h .0)));
+        pendings = λ m h. kept m (pendingField k) (omega arith) (inl (h .0));
+        owns = λ m h. kept m (ownAddsField k) (omega arith) (inl (h .0));
+      }
+
+  pub tail-calm : Committable w n → (verdict : ℕ) → Calm w (withTail w theQueue n verdict) k
+  tail-calm free verdict = queue-calm (tail-keeps s n free verdict)
+
+  pub ready-calm : Calm w (withReady w theQueue n) k
+  ready-calm = queue-calm (ready-keeps s n)
+
+  pub out-calm : Calm w (withoutBelow w theQueue n) k
+  out-calm = queue-calm (without-keeps s n)

@@ -1,0 +1,62 @@
+-- `may_wait` meets its contract: each exit is decided by the tests that led there, in the definition's order. Assumes nothing.
+use native.Mathlib.Omega.{arith}
+use borrow.Author.Needs.{needs}
+use borrow.Author.Tests.{le-leb, lt-leb}
+use Rattle.rules.specs.Sound.{mayWait}
+use Rattle.rules.proofs.Laws.Negated.{failed, held}
+use Rattle.soundness.proofs.queue.may_wait.Statement.{statement}
+use Rattle.soundness.proofs.queue.may_wait.Tie as tie
+
+returns : tie.Need-returns
+unfolding mayWait
+returns c = rw (c .if1 .taken)
+
+last-start-requires : tie.Need-last-start-requires
+last-start-requires c κs = search needs
+
+returns-2 : tie.Need-returns-2
+unfolding mayWait
+returns-2 c =
+    let n = c .before .before .before .before .args .n in
+    rw (le-leb 1 n (omega arith), ← c .before .last-start .ensures, lt-leb _ _ (c .if2 .taken))
+
+is-live-requires : tie.Need-is-live-requires
+is-live-requires c κs = search needs
+
+returns-3 : tie.Need-returns-3
+unfolding mayWait
+returns-3 c =
+    let n = c .before .before .before .before .before .before .args .n in
+    rw (
+      le-leb 1 n (omega arith),
+      ← c .before .before .before .last-start .ensures,
+      le-leb n _ (c .before .before .if2 .left),
+      failed (c .before .is-live .ensures) (c .if3 .taken),
+    )
+
+has-live-child-requires : tie.Need-has-live-child-requires
+has-live-child-requires c κs = search needs
+
+returns-4 : tie.Need-returns-4
+unfolding mayWait
+returns-4 c =
+    let n = c .before .before .before .before .before .before .before .args .n in
+    rw (
+      le-leb 1 n (omega arith),
+      ← c .before .before .before .before .last-start .ensures,
+      le-leb n _ (c .before .before .before .if2 .left),
+      held (c .before .before .is-live .ensures) (c .before .if3 .left),
+      c .has-live-child .ensures,
+    )
+
+pub may-wait-spec : {M : Type 1} → statement M
+may-wait-spec =
+    tie.close
+    (tie.spec
+    returns
+    last-start-requires
+    returns-2
+    is-live-requires
+    returns-3
+    has-live-child-requires
+    returns-4)
