@@ -34,8 +34,8 @@ static int64_t amount(const uint8_t *card)
 static void event(const char *what, uint64_t code, uint64_t number, uint64_t account, int64_t value)
 {
     static const char *kinds[] = {"refused", "started", "read", "written", "committed", "failed", "aborted", "added",
-                                  "read"};
-    static const int numbers[] = {1, 1, 2, 0, 1, 2, 1, 0, 3};
+                                  "read", "entered", "ready", "failed"};
+    static const int numbers[] = {1, 1, 2, 0, 1, 2, 2, 0, 3, 0, 1, 1};
     uint8_t card[MUNDZAVCH_CARD_BYTES] = {0};
     uint64_t first, second, third;
     if (code == MUNDZAVCH_EVENT_ADD)

@@ -1,9 +1,9 @@
 //! The library over its C ABI beside the second engine, in one run: rounds interleaved, medians.
 
 use crate::dayfile::{event_bytes, run_day, MOST_EVENTS};
-use crate::generate::{day_file, events, Shape};
+use crate::generate::{day_file, events, Ending, Shape, Style};
 use crate::header::*;
-use crate::library::{encode, Lent, COUNTER, LIVE, STATE};
+use crate::library::{encode, Lent, COUNTER, LIVE, QUEUE_LENGTH, READINESS, STATE};
 use crate::model::{put_amount, Answer, Event, Ledger, State, Table, FIRST_CHARGE, STORE};
 use crate::random::Random;
 use std::fmt::Write;
@@ -28,6 +28,8 @@ const FREE_ACCOUNT: u64 = CHARGE_ACCOUNT - 1;
 const CHARGE_ACCOUNT: u64 = FIRST_CHARGE as u64;
 /// How deep actions lie where that is measured.
 const MOVES: [u64; 3] = [1, 10, ACTIONS as u64];
+/// How many wait where that is measured.
+const QUEUED: [u64; 2] = [1, ACTIONS as u64 - 1];
 /// Where an event has no use for an account.
 const NO_ACCOUNT: u64 = 0;
 
@@ -91,10 +93,18 @@ fn done(w: &mut Ledger, e: &Event) {
     assert!(!matches!(answer, Answer::Refused(_)), "{e:?} is answered {answer:?}");
 }
 
+/// The days, by name: without a queue as they lie, and one with it.
+const DAYS: [(&str, Style); 4] = [
+    ("deep", Style { shape: Shape::Deep, ending: Ending::Commits }),
+    ("wide", Style { shape: Shape::Wide, ending: Ending::Commits }),
+    ("mixed", Style { shape: Shape::Mixed, ending: Ending::Commits }),
+    ("wide, with the queue", Style { shape: Shape::Wide, ending: Ending::Queue }),
+];
+
 /// A whole day: file to listing, and its events alone.
 fn days(rows: &mut Vec<Row>) {
-    for (name, shape) in [("deep", Shape::Deep), ("wide", Shape::Wide), ("mixed", Shape::Mixed)] {
-        let list = events(&mut Random::new(SEED), &[0; BASE_BYTES], MOST_EVENTS, shape, true);
+    for (name, style) in DAYS {
+        let list = events(&mut Random::new(SEED), &[0; BASE_BYTES], MOST_EVENTS, style, true);
         let file = day_file(&[], &list);
         let (mut lent, mut buffer) = (lend(&new_world()), Box::new([0; LISTING_BYTES]));
         rows.push(measure(
@@ -245,6 +255,92 @@ fn charge_commits(rows: &mut Vec<Row>) {
     ));
 }
 
+/// Siblings under the store, of which each but the last has written and is queued. The last has read all but what they
+/// have written.
+fn queued(count: u64) -> Ledger {
+    let mut w = new_world();
+    for _ in 0..=count {
+        done(&mut w, &of(EVENT_START, STORE, NO_ACCOUNT));
+    }
+    for k in 0..FREE_ACCOUNT {
+        done(&mut w, &of(EVENT_READ, count + 1, k));
+    }
+    for n in 1..=count {
+        done(&mut w, &of(EVENT_WRITE, n, FREE_ACCOUNT));
+        done(&mut w, &of(EVENT_ENTER, n, NO_ACCOUNT));
+    }
+    w
+}
+
+/// An enter whose verdict is good. Each time the queue is made as short as it was, by one store.
+fn enters(rows: &mut Vec<Row>) {
+    for count in QUEUED {
+        let mut ledger = queued(count);
+        let mut lent = lend(&ledger);
+        let enter = of(EVENT_ENTER, count + 1, NO_ACCOUNT);
+        done(&mut ledger.clone(), &enter);
+        rows.push(measure(
+            &format!("an enter, queued: {count}"),
+            &mut || {
+                black_box(lent.event(&enter));
+                lent.table[QUEUE_LENGTH] = count;
+            },
+            &mut || {
+                black_box(ledger.event(&enter));
+                ledger.table.queue.length = count;
+            },
+        ));
+    }
+}
+
+/// A judge behind those that wait, at which nobody leaves. Each time its action is made unready again, by one store.
+fn judges_behind(rows: &mut Vec<Row>) {
+    for count in QUEUED {
+        let mut ledger = queued(count);
+        done(&mut ledger, &of(EVENT_ENTER, count + 1, NO_ACCOUNT));
+        let mut lent = lend(&ledger);
+        let judge = of(EVENT_JUDGE, count + 1, NO_ACCOUNT);
+        done(&mut ledger.clone(), &judge);
+        let at = count as usize;
+        rows.push(measure(
+            &format!("a judge, queued before it: {count}"),
+            &mut || {
+                black_box(lent.event(&judge));
+                lent.table[ROW_WORDS * (at + 1) + READINESS] = 0;
+            },
+            &mut || {
+                black_box(ledger.event(&judge));
+                ledger.table.queue.places[at].readiness = 0;
+            },
+        ));
+    }
+}
+
+/// A judge of the head, at which all leave, as the others are ready. Each time the whole table is put back.
+fn judges_of_all(rows: &mut Vec<Row>) {
+    for count in QUEUED {
+        let mut ledger = queued(count);
+        for n in 2..=count {
+            done(&mut ledger, &of(EVENT_JUDGE, n, NO_ACCOUNT));
+        }
+        let (mut lent, table) = (lend(&ledger), ledger.table.clone());
+        let words = lent.table.clone();
+        let judge = of(EVENT_JUDGE, 1, NO_ACCOUNT);
+        assert_eq!(ledger.clone().event(&judge), Answer::Ready(count), "not all have left");
+        rows.push(measure(
+            &format!("a judge that lets all leave, and the table put back, queued: {count}"),
+            &mut || {
+                black_box(lent.event(&judge));
+                lent.table.copy_from_slice(&words);
+            },
+            &mut || {
+                black_box(ledger.event(&judge));
+                ledger.table.clone_from(&table);
+            },
+        ));
+    }
+}
+
 /// A start, and an add to every charge account by the new action.
 fn start_and_add(w: &mut Ledger, parent: u64) {
     done(w, &of(EVENT_START, parent, NO_ACCOUNT));
@@ -329,6 +425,9 @@ pub fn bench(file: Option<&str>) -> Result<(), String> {
     looks(&mut rows);
     searches(&mut rows);
     charge_commits(&mut rows);
+    enters(&mut rows);
+    judges_behind(&mut rows);
+    judges_of_all(&mut rows);
     trees(&mut rows);
     growth(&mut rows);
     let table = table(&rows);

@@ -3,7 +3,7 @@
 use crate::cause;
 use crate::coverage::Coverage;
 use crate::dayfile::{event_bytes, event_of};
-use crate::generate::{event, shape};
+use crate::generate::{event, style};
 use crate::header::{ANSWER_WORDS, BASE_BYTES, EVENT_BYTES, SHADOW_BYTES, TABLE_WORDS};
 use crate::library::{answer_words, decode, encode, Lent, COUNTER, STARTED};
 use crate::lists::STALE;
@@ -17,9 +17,9 @@ const ROOM: u64 = 20;
 
 /// A short list that may be cut, with room that may be too small; `ledger` stands where events mostly are not refused.
 pub fn list_call(r: &mut Random, before: &Lent, ledger: &Ledger, seen: &mut Coverage) -> Compared {
-    let (shape, mut ahead, mut events) = (shape(r), ledger.clone(), Vec::new());
+    let (style, mut ahead, mut events) = (style(r), ledger.clone(), Vec::new());
     for _ in 0..r.below(EVENTS) {
-        let e = event(r, &ahead, shape, true);
+        let e = event(r, &ahead, style, true);
         ahead.event(&e);
         events.push(e);
     }

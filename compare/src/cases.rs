@@ -1,5 +1,5 @@
-//! Cases of own adds and trees at the ends of what an amount holds. Each has a name, and both engines are held to what
-//! the case says.
+//! Cases of own adds and trees at the ends of what an amount holds, and of the queue. Each has a name, and both engines
+//! are held to what the case says.
 
 use crate::cause;
 use crate::coverage::Coverage;
@@ -7,7 +7,9 @@ use crate::header::{BASE_BYTES, CARD_BYTES, EVENT_ADD, SHADOW_BYTES, TABLE_WORDS
 use crate::library::{encode, Lent};
 use crate::model::State::{self, Aborted, Committed, Live};
 use crate::model::{put_amount, Action, Answer, Event, Ledger, Table, CHARGE_ACCOUNTS, FIRST_CHARGE, STORE};
+use crate::queue_cases::{longest, GROUPS};
 use crate::same::{same_lent, Compared};
+use crate::scripts::check_script;
 use crate::trees::tree;
 
 /// The ends of what an amount holds.
@@ -154,8 +156,27 @@ fn add_case(case: &AddCase, charge: usize) -> Compared {
     same_lent(&lent, &lend(&ledger))
 }
 
-/// Every case, on each charge account in turn.
+fn script_case(group: &str, name: &str, script: &str, seen: &mut Coverage) -> Compared {
+    check_script(script).map_err(|text| format!("{text}\nin the case of the queue, {group}: {name}"))?;
+    seen.cases += 1;
+    Ok(())
+}
+
+fn check_queue_cases(seen: &mut Coverage) -> Compared {
+    for (group, cases) in GROUPS {
+        for (name, script) in *cases {
+            script_case(group, name, script, seen)?;
+        }
+    }
+    for (name, script) in longest() {
+        script_case("longest", name, &script, seen)?;
+    }
+    Ok(())
+}
+
+/// Every case; those of sums on each charge account in turn.
 pub fn check_cases(seen: &mut Coverage) -> Compared {
+    check_queue_cases(seen)?;
     for charge in 0..CHARGE_ACCOUNTS {
         for case in TREES {
             tree_case(case, charge).map_err(|text| format!("{text}\nin the case of a tree: {}", case.name))?;

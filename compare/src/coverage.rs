@@ -2,7 +2,8 @@
 
 use crate::cause;
 use crate::header::{EVENT_ADD, EVENT_COMMIT, EVENT_READ};
-use crate::model::{amount_in, Answer, Event, Unsound, FIRST_CHARGE};
+use crate::model::{amount_in, Answer, Event, Outcome, Shown, Unsound, FIRST_CHARGE};
+use crate::queue::Queue;
 use crate::trees::Report;
 use std::collections::BTreeMap;
 use std::fmt;
@@ -28,6 +29,8 @@ pub struct Coverage {
     pub amounts_held: u64,
     pub damaged: u64,
     pub own_adds_refused: u64,
+    looks_refused: BTreeMap<u64, u64>,
+    pub queues: Queues,
     pub cases: u64,
     trees: u64,
     tree_refusals: BTreeMap<u64, u64>,
@@ -40,6 +43,62 @@ pub struct Coverage {
     day_trees: u64,
     day_tree_refusals: BTreeMap<u64, u64>,
     events: u64,
+}
+
+/// Queues from this length on are counted together.
+const LONG: u64 = 8;
+
+/// What events met in the queue.
+#[derive(Default)]
+pub struct Queues {
+    by_length: BTreeMap<u64, u64>,
+    left_committed: u64,
+    left_aborted: u64,
+    left_together: u64,
+    judged_behind: u64,
+    aborted_out: u64,
+    ready_heads: u64,
+    ready_heads_left: u64,
+    left_though_failed: u64,
+}
+
+impl Queues {
+    /// An event that found this queue in a sound table, and what came of it.
+    pub fn event(&mut self, before: &Queue, after: &Queue, done: &Outcome) {
+        *self.by_length.entry(before.length.min(LONG)).or_default() += 1;
+        for w in &done.left {
+            let though_failed = before.entry(w.number).is_some_and(|entry| entry.has_failed());
+            self.left_though_failed += u64::from(though_failed);
+            self.left_committed += u64::from(w.committed);
+            self.left_aborted += u64::from(!w.committed);
+        }
+        let left = done.left.len() as u64;
+        self.left_together += u64::from(left > 1);
+        self.judged_behind += u64::from(matches!(done.answer, Answer::Ready(0)));
+        if let Answer::Aborted(..) = done.answer {
+            self.aborted_out += before.length - after.length - left;
+        }
+        if let Some(head) = before.ready_head() {
+            self.ready_heads += 1;
+            self.ready_heads_left += u64::from(done.left.iter().any(|w| w.number == head));
+        }
+    }
+}
+
+impl fmt::Display for Queues {
+    fn fmt(&self, f: &mut fmt::Formatter) -> fmt::Result {
+        let length = |l: u64| if l < LONG { l.to_string() } else { format!("{l}+") };
+        row(f, "queues by length", &self.by_length.iter().map(|(&l, &n)| (length(l), n)).collect())?;
+        writeln!(f, "left the queue as committed: {}, aborted for sums: {}", self.left_committed, self.left_aborted)?;
+        writeln!(
+            f,
+            "several left at one event: {}, ready and not yet at the head: {}",
+            self.left_together, self.judged_behind
+        )?;
+        writeln!(f, "taken out by aborts: {}", self.aborted_out)?;
+        writeln!(f, "heads ready beforehand: {}, that then left: {}", self.ready_heads, self.ready_heads_left)?;
+        writeln!(f, "left though their verdict is failed: {}", self.left_though_failed)
+    }
 }
 
 /// The causes of a tree, each of which is shown, also with a count of 0.
@@ -67,7 +126,7 @@ impl Coverage {
                 self.charge_clashes += u64::from(account >= FIRST_CHARGE as u64);
                 "failed"
             }
-            Answer::Aborted(_) => "aborted",
+            Answer::Aborted(..) => "aborted",
             Answer::Added => {
                 *self.adds.entry(sign(amount_in(&e.card))).or_default() += 1;
                 "added"
@@ -77,8 +136,17 @@ impl Coverage {
                 *self.sums.entry(sign(sum)).or_default() += 1;
                 "read"
             }
+            Answer::Entered => "entered",
+            Answer::Ready(_) => "ready",
+            Answer::JudgedFailed(_) => "failed-at-judge",
         };
         *self.answers.entry(word).or_default() += 1;
+    }
+
+    pub fn look(&mut self, shown: Result<Shown, u64>) {
+        if let Err(cause) = shown {
+            *self.looks_refused.entry(cause).or_default() += 1;
+        }
     }
 
     pub fn soundness(&mut self, s: Result<(), Unsound>) {
@@ -171,6 +239,8 @@ impl fmt::Display for Coverage {
     fn fmt(&self, f: &mut fmt::Formatter) -> fmt::Result {
         row(f, "answers", &self.answers)?;
         row(f, "refusals by number", &self.refusals)?;
+        row(f, "looks refused by number", &self.looks_refused)?;
+        write!(f, "{}", self.queues)?;
         row(f, "reads by moves up", &self.moves)?;
         row(f, "adds", &self.adds)?;
         row(f, "sums read", &self.sums)?;

@@ -4,6 +4,7 @@ use crate::generate::{any_base, busy_charge, extreme};
 use crate::header::*;
 use crate::library::{Lent, ABORTED, COMMITTED, LIVE};
 use crate::library::{COUNTER, END, OWN_ADDS, PARENT, PENDING, READS, STARTED, STATE, WRITES};
+use crate::library::{QUEUED, QUEUE_LENGTH, READINESS, VERDICT};
 use crate::model::{base_card, put_amount, CHARGE_ACCOUNTS, FIRST_CHARGE};
 use crate::random::Random;
 
@@ -40,6 +41,16 @@ damages! {
     PendingAtEnds,
     OwnAddsAtEnds,
     BaseAtEnds,
+    QueueMade,
+    QueueMadeReady,
+    QueueLength,
+    QueueLonger,
+    QueueShorter,
+    EntriesAbove,
+    EntryWords,
+    EntryNobody,
+    EntryOther,
+    EntryTwice,
 }
 
 use Damage::*;
@@ -52,6 +63,10 @@ const BASE_LENGTHS: [usize; 6] = [0, 1, BASE_BYTES - CARD_BYTES, BASE_BYTES - 1,
 const SHADOW_LENGTHS: [usize; 6] = [0, 1, BASE_BYTES, SHADOW_BYTES - 1, SHADOW_BYTES + 1, SHADOW_BYTES + BASE_BYTES];
 const TABLE_LENGTHS: [usize; 7] =
     [0, COUNTER, COUNTER + 1, ROW_WORDS, TABLE_WORDS - 1, TABLE_WORDS + 1, TABLE_WORDS + ROW_WORDS];
+/// Words of the head that nothing is kept in.
+const UNUSED_HEAD: [std::ops::Range<usize>; 2] = [COUNTER + 1..QUEUE_LENGTH, QUEUE_LENGTH + 1..ROW_WORDS];
+/// What stands in words that are only asked whether they are 0.
+const ODD: [u64; 6] = [0, 0, 1, 7, 1 << 63, u64::MAX];
 /// One opening store in so many has another length.
 const OTHER_OPENING: u64 = 8;
 /// One action in so many gets other own adds: all, some or few of them.
@@ -82,8 +97,18 @@ pub fn damage(r: &mut Random, kind: Damage, lent: &mut Lent) {
         _ if lent.table.len() != TABLE_WORDS => {}
         Started => lent.table[STARTED] = beyond(r, ACTIONS as u64 + 1),
         Counter => lent.table[COUNTER] = beyond(r, lent.table[COUNTER].saturating_add(1)),
-        UnusedHead => lent.table[COUNTER + 1 + r.below((ROW_WORDS - COUNTER - 1) as u64) as usize] = r.next(),
+        UnusedHead => {
+            let unused: Vec<usize> = UNUSED_HEAD.into_iter().flatten().collect();
+            lent.table[*r.pick(&unused)] = r.next();
+        }
         UnusedRow => damage_unused_row(r, &mut lent.table),
+        QueueMade => make_queue(r, &mut lent.table, false),
+        QueueMadeReady => make_queue(r, &mut lent.table, true),
+        QueueLength => lent.table[QUEUE_LENGTH] = beyond(r, ACTIONS as u64 + 1),
+        EntriesAbove => damage_entries_above(r, &mut lent.table),
+        QueueLonger | QueueShorter | EntryWords | EntryNobody | EntryOther | EntryTwice => {
+            damage_queue(r, kind, &mut lent.table)
+        }
         PendingAtEnds => damage_sums(r, &mut lent.table),
         OwnAddsAtEnds => damage_own_adds(r, &mut lent.table),
         _ => damage_action(r, kind, &mut lent.table),
@@ -151,6 +176,67 @@ pub fn any_opening(r: &mut Random) -> Vec<u8> {
         opening.resize(*r.pick(&BASE_LENGTHS), FILL);
     }
     opening
+}
+
+/// The actions that may wait: live, and without a live child.
+fn may_wait(words: &[u64]) -> Vec<u64> {
+    let field = |n: u64, f: usize| words[ROW_WORDS * n as usize + f];
+    let live: Vec<u64> = (1..=started(words)).filter(|&n| field(n, STATE) == LIVE).collect();
+    let has_child = |n: u64| live.iter().any(|&m| field(m, PARENT) == n);
+    live.iter().copied().filter(|&n| !has_child(n)).collect()
+}
+
+/// A queue of some of those that may wait, in any order, with odd words: what a caller may lend though no events lead
+/// there. Its head can be ready.
+fn make_queue(r: &mut Random, words: &mut [u64], head_is_ready: bool) {
+    let mut numbers = may_wait(words);
+    let mut length = 0;
+    while !numbers.is_empty() && !r.one_in(8) {
+        let number = numbers.swap_remove(r.below(numbers.len() as u64) as usize);
+        length += 1;
+        let (verdict, readiness) = (*r.pick(&ODD), *r.pick(&ODD));
+        row(words, length)[QUEUED..].copy_from_slice(&[number, verdict, readiness]);
+    }
+    words[QUEUE_LENGTH] = length;
+    if head_is_ready && length > 0 {
+        row(words, 1)[READINESS] = *r.pick(&[1, 7, u64::MAX]);
+    }
+}
+
+/// Positions behind the tail, filled with anything, or with what an engine that reads on would take for entries.
+fn damage_entries_above(r: &mut Random, words: &mut [u64]) {
+    let (started, length) = (started(words), words[QUEUE_LENGTH].min(ACTIONS as u64));
+    for position in length + 1..=ACTIONS as u64 {
+        let number = if r.one_in(2) { r.next() } else { r.below(started + 1) };
+        row(words, position)[QUEUED..].copy_from_slice(&[number, *r.pick(&ODD), *r.pick(&ODD)]);
+    }
+}
+
+/// Damage to a queue, which is made first where there is none.
+fn damage_queue(r: &mut Random, kind: Damage, words: &mut [u64]) {
+    if words[QUEUE_LENGTH] == 0 {
+        make_queue(r, words, false);
+    }
+    let (started, length) = (started(words), words[QUEUE_LENGTH]);
+    if length == 0 || length >= ACTIONS as u64 {
+        return;
+    }
+    let position = 1 + r.below(length);
+    match kind {
+        QueueLonger => words[QUEUE_LENGTH] = (length + 1 + r.below(2)).min(ACTIONS as u64),
+        QueueShorter => words[QUEUE_LENGTH] = r.below(length),
+        EntryNobody => row(words, position)[QUEUED] = if r.one_in(2) { 0 } else { beyond(r, started + 1) },
+        EntryOther => row(words, position)[QUEUED] = 1 + r.below(started),
+        EntryTwice => {
+            let number = row(words, position)[QUEUED];
+            row(words, length + 1)[QUEUED] = number;
+            words[QUEUE_LENGTH] = length + 1;
+        }
+        _ => {
+            let row = row(words, position);
+            (row[VERDICT], row[READINESS]) = (*r.pick(&ODD), *r.pick(&ODD));
+        }
+    }
 }
 
 fn damage_unused_row(r: &mut Random, words: &mut [u64]) {

@@ -4,11 +4,11 @@ use crate::calls::{list_call, open_and_two_numbers};
 use crate::cause;
 use crate::coverage::Coverage;
 use crate::damage::{any_opening, damage, DAMAGES};
-use crate::generate::{event, events, shape};
+use crate::generate::{event, events, style};
 use crate::header::{BASE_BYTES, EVENT_ADD, SHADOW_BYTES};
 use crate::library::{decode, encode, Lent};
 use crate::lists::Opening;
-use crate::model::{amount_in, Answer, Event, Ledger, Shown, FIRST_CHARGE};
+use crate::model::{amount_in, Answer, Event, Ledger, Shown, Table, FIRST_CHARGE};
 use crate::random::Random;
 use crate::same::{same, same_lent, Compared};
 use crate::shrink::{described, smallest_list};
@@ -35,12 +35,29 @@ fn expected(lent: &Lent, e: &Event, seen: &mut Coverage) -> (Answer, Lent, Resul
     if !misfit {
         seen.soundness(ledger.table.soundness());
     }
-    let a = ledger.event(e);
+    let a = seen_event(&mut ledger, e, seen);
     seen.own_adds_refused += u64::from(refused_for_own_adds(&ledger, e, a));
     let mut words = lent.table.clone();
     encode(&ledger.table, &mut words);
     let look = ledger.look(e.number, e.account);
     (a, Lent { table: words, base: ledger.base, shadow: ledger.shadow }, look)
+}
+
+/// The second engine's answer; what it found in the queue counts where the call is not refused before it is asked.
+fn seen_event(ledger: &mut Ledger, e: &Event, seen: &mut Coverage) -> Answer {
+    let (calls, queue) = (ledger.stores_cause().is_none(), ledger.table.queue.clone());
+    let outcome = ledger.outcome(e);
+    if calls {
+        seen.queues.event(&queue, &ledger.table.queue, &outcome);
+    }
+    outcome.answer
+}
+
+/// Where the next events mostly are not refused: what is lent, unless it is refused whatever the event.
+fn guide(lent: &Lent, undamaged: &Ledger) -> Ledger {
+    let ledger = |table: Table| Ledger { table, base: lent.base.clone(), shadow: lent.shadow.clone() };
+    let damaged = decode(&lent.table).map(ledger).filter(|l| l.stores_cause().is_none());
+    damaged.unwrap_or_else(|| undamaged.clone())
 }
 
 /// Whether an add was refused for its own adds alone: what it would leave pending is an amount.
@@ -66,16 +83,18 @@ fn damaged(seed: u64, history: &[Event], seen: &mut Coverage) -> Compared {
         let kind = *r.pick(DAMAGES);
         damage(&mut r, kind, &mut lent);
     }
-    list_call(&mut r, &lent, &ledger, seen)?;
+    let guide = guide(&lent, &ledger);
+    list_call(&mut r, &lent, &guide, seen)?;
     open_and_two_numbers(&lent)?;
     let report = tree(&lent, &any_opening(&mut r), seen)?;
     seen.damaged_tree(&report);
-    let shape = shape(&mut r);
-    let e = event(&mut r, &ledger, shape, false);
+    let style = style(&mut r);
+    let e = event(&mut r, &guide, style, false);
     let (a, after, look) = expected(&lent, &e, seen);
     let ours = lent.event(&e);
     same(&format!("answer to {e:?}"), ours, a)?;
     seen.answer(&e, a);
+    seen.look(look);
     seen.damaged += 1;
     same_lent(&lent, &after)?;
     same(&format!("look after {e:?}"), lent.look(e.number, e.account), look)
@@ -86,8 +105,8 @@ pub fn check_damaged(count: u64, seed: u64, seen: &mut Coverage) -> Compared {
     let mut history = Vec::new();
     for i in 0..count {
         if i % TABLES_TO_A_HISTORY == 0 {
-            let (length, shape) = (r.below(LONGEST_HISTORY) as usize, shape(&mut r));
-            history = events(&mut r, &BASE, length, shape, false);
+            let (length, style) = (r.below(LONGEST_HISTORY) as usize, style(&mut r));
+            history = events(&mut r, &BASE, length, style, false);
             crate::check::progress(&format!("{i} damaged tables of {count}"));
         }
         let once = r.next();

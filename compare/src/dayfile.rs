@@ -3,7 +3,7 @@
 use crate::cause;
 use crate::header::{ACCOUNTS, BASE_BYTES, CARD_BYTES, EVENT_BYTES, SHADOW_BYTES};
 use crate::model::{base_card, Answer, Event, Ledger};
-use std::fmt::Write;
+use std::fmt::{self, Write};
 
 /// The parts of a day file (docs/RULES.md, 9.1): a count of cards, an entry for each, a count of events, the events.
 const CARD_COUNT_BYTES: usize = 1;
@@ -93,9 +93,7 @@ pub fn run_day(file: &[u8], shadow: Vec<u8>) -> (String, Option<Ledger>) {
     let mut ledger = Ledger::new(day.base, shadow);
     let mut lines = String::new();
     for (i, e) in day.events.iter().enumerate() {
-        write!(lines, "{} ", i + 1).expect("a string grows");
-        write_words(&mut lines, ledger.sound_event(e));
-        lines.push('\n');
+        writeln!(lines, "{} {}", i + 1, ledger.sound_event(e)).expect("a string grows");
     }
     writeln!(lines, "end {} {}", ledger.table.started, ledger.table.counter).expect("a string grows");
     (lines, Some(ledger))
@@ -138,17 +136,22 @@ pub fn print_tree(path: &str) -> Result<(), String> {
     Ok(())
 }
 
-fn write_words(out: &mut String, a: Answer) {
-    match a {
-        Answer::Refused(c) => write!(out, "refused {c}"),
-        Answer::Started(n) => write!(out, "started {n}"),
-        Answer::Read(v) => write!(out, "read {} {}", v.holder, v.moves),
-        Answer::Written => write!(out, "written"),
-        Answer::Committed(t) => write!(out, "committed {t}"),
-        Answer::Failed(t, k) => write!(out, "failed {t} {k}"),
-        Answer::Aborted(n) => write!(out, "aborted {n}"),
-        Answer::Added => write!(out, "added"),
-        Answer::ReadSum(v, sum) => write!(out, "read {} {} {sum}", v.holder, v.moves),
+/// An answer's word and its numbers, as a listing has them.
+impl fmt::Display for Answer {
+    fn fmt(&self, f: &mut fmt::Formatter) -> fmt::Result {
+        match self {
+            Answer::Refused(c) => write!(f, "refused {c}"),
+            Answer::Started(n) => write!(f, "started {n}"),
+            Answer::Read(v) => write!(f, "read {} {}", v.holder, v.moves),
+            Answer::Written => write!(f, "written"),
+            Answer::Committed(t) => write!(f, "committed {t}"),
+            Answer::Failed(t, k) => write!(f, "failed {t} {k}"),
+            Answer::Aborted(n, m) => write!(f, "aborted {n} {m}"),
+            Answer::Added => write!(f, "added"),
+            Answer::ReadSum(v, sum) => write!(f, "read {} {} {sum}", v.holder, v.moves),
+            Answer::Entered => write!(f, "entered"),
+            Answer::Ready(m) => write!(f, "ready {m}"),
+            Answer::JudgedFailed(m) => write!(f, "failed {m}"),
+        }
     }
-    .expect("a string grows");
 }

@@ -7,7 +7,7 @@ use crate::model::{CHARGE_ACCOUNTS, FIRST_CHARGE, MOST_ADDED, STORE};
 use crate::random::Random;
 
 /// What a part of an event that means nothing mostly is below: a little beyond what has a meaning.
-const CODES: u64 = EVENT_ADD + 3;
+const CODES: u64 = EVENT_JUDGE + 3;
 const NUMBERS: u64 = ACTIONS as u64 + 6;
 const ANY_ACCOUNTS: u64 = ACCOUNTS as u64 + 8;
 const CARD_LENGTHS: u64 = 2 * CARD_BYTES as u64 + 6;
@@ -22,6 +22,10 @@ const OTHER_KIND: u64 = 24;
 const SMALL: i64 = 100;
 /// How far from an end of 64 bits an amount near it may be: a few adds reach it.
 const NEAR: u64 = 2 * MOST_ADDED as u64;
+/// One event in so many is by any live action, with live children or queued.
+const ANYONE: u64 = 12;
+/// One end in so many is a commit though the queue comes first.
+const OVERTAKES: u64 = 10;
 /// A day mostly has fewer events than this.
 const SHORT_DAY: u64 = 120;
 /// The ways in which a day file is damaged.
@@ -33,6 +37,31 @@ pub enum Shape {
     Deep,
     Wide,
     Mixed,
+}
+
+/// How they mostly end: by commits, through the queue, or by commits while nobody waits.
+#[derive(Clone, Copy, PartialEq, Eq)]
+pub enum Ending {
+    Commits,
+    Queue,
+    Either,
+}
+
+impl Ending {
+    /// With so many that wait to be judged, a judge is as likely as one more enter. Where it is 0, nobody enters.
+    fn patience(self) -> u64 {
+        match self {
+            Ending::Commits => 0,
+            Ending::Queue => 6,
+            Ending::Either => 2,
+        }
+    }
+}
+
+#[derive(Clone, Copy)]
+pub struct Style {
+    pub shape: Shape,
+    pub ending: Ending,
 }
 
 pub fn bytes(r: &mut Random, n: usize) -> Vec<u8> {
@@ -84,8 +113,33 @@ fn added(r: &mut Random) -> i64 {
     }
 }
 
-fn live(t: &Table) -> Vec<u64> {
-    (1..=t.started).filter(|&n| t.action(n).state == State::Live).collect()
+/// Who may do something where a table stands.
+struct Stage {
+    live: Vec<u64>,
+    /// Live and not queued.
+    free: Vec<u64>,
+    /// Free and without a live child.
+    leaves: Vec<u64>,
+    queued: Vec<u64>,
+    /// Queued and not ready.
+    unjudged: Vec<u64>,
+}
+
+impl Stage {
+    fn of(t: &Table) -> Stage {
+        let live: Vec<u64> = (1..=t.started).filter(|&n| t.action(n).state == State::Live).collect();
+        let has_child = |n: u64| live.iter().any(|&m| t.action(m).parent == n);
+        let free: Vec<u64> = live.iter().copied().filter(|&n| !t.queue.is_queued(n)).collect();
+        let leaves = free.iter().copied().filter(|&n| !has_child(n)).collect();
+        let queued = t.queue.waiting().iter().map(|w| w.number).collect();
+        let unjudged = t.queue.waiting().iter().filter(|w| !w.is_ready()).map(|w| w.number).collect();
+        Stage { live, free, leaves, queued, unjudged }
+    }
+}
+
+/// One of the first list that isn't empty.
+fn pick_first(r: &mut Random, lists: &[&[u64]]) -> u64 {
+    lists.iter().find(|list| !list.is_empty()).map_or(STORE, |list| *r.pick(list))
 }
 
 /// An event that means nothing: any code, number, account and card, inside bytes where that is asked.
@@ -135,11 +189,11 @@ fn start(r: &mut Random, live: &[u64], shape: Shape) -> u64 {
 }
 
 /// An event that mostly is not refused where the engine stands.
-pub fn event(r: &mut Random, w: &Ledger, shape: Shape, in_bytes: bool) -> Event {
+pub fn event(r: &mut Random, w: &Ledger, style: Style, in_bytes: bool) -> Event {
     if r.one_in(24) {
         return wild(r, in_bytes);
     }
-    let mut e = likely(r, w, shape);
+    let mut e = likely(r, w, style);
     if r.one_in(24) {
         spoil(r, &mut e, in_bytes);
     }
@@ -155,44 +209,80 @@ fn spoil(r: &mut Random, e: &mut Event, in_bytes: bool) {
     }
 }
 
-fn likely(r: &mut Random, w: &Ledger, shape: Shape) -> Event {
-    let live = live(&w.table);
+fn likely(r: &mut Random, w: &Ledger, style: Style) -> Event {
+    let stage = Stage::of(&w.table);
     let mut card = bytes(r, CARD_BYTES);
     let full = w.table.started >= ACTIONS as u64;
-    if live.is_empty() || (!full && r.one_in(5)) {
-        return Event { code: EVENT_START, number: start(r, &live, shape), account: 0, card };
+    if stage.live.is_empty() || (!full && r.one_in(5)) {
+        let parents = if r.one_in(ANYONE) { &stage.live } else { &stage.free };
+        return Event { code: EVENT_START, number: start(r, parents, style.shape), account: 0, card };
     }
-    let busy = |n: u64| live.iter().any(|&m| w.table.action(m).parent == n);
-    let leaves: Vec<u64> = live.iter().copied().filter(|&n| !busy(n)).collect();
-    let number = if r.one_in(12) { *r.pick(&live) } else { *r.pick(&leaves) };
-    let code = match r.below(15) {
-        0..4 => EVENT_READ,
-        4..8 => EVENT_WRITE,
-        8..11 => EVENT_ADD,
-        11..14 => EVENT_COMMIT,
-        _ if r.one_in(3) => EVENT_ABORT,
-        _ => EVENT_WRITE,
-    };
+    let code = code(r, &stage, style.ending);
+    let number = actor(r, &stage, code);
     if code == EVENT_ADD {
         put_amount(&mut card, added(r));
     }
     Event { code, number, account: account(r, code), card }
 }
 
+fn code(r: &mut Random, stage: &Stage, ending: Ending) -> u64 {
+    if stage.leaves.is_empty() && !r.one_in(4) {
+        return EVENT_JUDGE;
+    }
+    match r.below(15) {
+        0..4 => EVENT_READ,
+        4..8 => EVENT_WRITE,
+        8..11 => EVENT_ADD,
+        11..14 => end(r, stage, ending),
+        _ if r.one_in(3) => EVENT_ABORT,
+        _ => EVENT_WRITE,
+    }
+}
+
+/// How an action tries to end, or helps another to.
+fn end(r: &mut Random, stage: &Stage, ending: Ending) -> u64 {
+    let (waits, patience) = (stage.unjudged.len() as u64, ending.patience());
+    let commits = match ending {
+        Ending::Commits if stage.queued.is_empty() => true,
+        Ending::Either if stage.queued.is_empty() => r.one_in(2),
+        _ => r.one_in(OVERTAKES),
+    };
+    if commits {
+        EVENT_COMMIT
+    } else if patience == 0 || r.below(waits + patience) < waits {
+        EVENT_JUDGE
+    } else {
+        EVENT_ENTER
+    }
+}
+
+fn actor(r: &mut Random, stage: &Stage, code: u64) -> u64 {
+    if r.one_in(ANYONE) {
+        return *r.pick(&stage.live);
+    }
+    match code {
+        EVENT_JUDGE => pick_first(r, &[&stage.unjudged, &stage.queued, &stage.live]),
+        EVENT_ABORT if r.one_in(2) => pick_first(r, &[&stage.queued, &stage.leaves, &stage.live]),
+        EVENT_ABORT if r.one_in(2) => *r.pick(&stage.live),
+        _ => pick_first(r, &[&stage.leaves, &stage.live]),
+    }
+}
+
 /// A list for a new table over the base store.
-pub fn events(r: &mut Random, base: &[u8], count: usize, shape: Shape, in_bytes: bool) -> Vec<Event> {
+pub fn events(r: &mut Random, base: &[u8], count: usize, style: Style, in_bytes: bool) -> Vec<Event> {
     let mut ledger = Ledger::new(base.to_vec(), vec![0; SHADOW_BYTES]);
     let mut out = Vec::with_capacity(count);
     for _ in 0..count {
-        let e = event(r, &ledger, shape, in_bytes);
+        let e = event(r, &ledger, style, in_bytes);
         ledger.sound_event(&e);
         out.push(e);
     }
     out
 }
 
-pub fn shape(r: &mut Random) -> Shape {
-    *r.pick(&[Shape::Deep, Shape::Wide, Shape::Mixed])
+pub fn style(r: &mut Random) -> Style {
+    let shape = *r.pick(&[Shape::Deep, Shape::Wide, Shape::Mixed]);
+    Style { shape, ending: *r.pick(&[Ending::Commits, Ending::Queue, Ending::Either]) }
 }
 
 // ---- day files
@@ -218,8 +308,8 @@ pub fn any_day(r: &mut Random) -> Vec<u8> {
         }
     }
     let count = if r.one_in(20) { MOST_EVENTS } else { r.below(SHORT_DAY) as usize };
-    let shape = shape(r);
-    let events = events(r, &base, count, shape, true);
+    let style = style(r);
+    let events = events(r, &base, count, style, true);
     let file = day_file(&opening, &events);
     if r.one_in(2) {
         damaged_file(r, file)

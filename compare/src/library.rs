@@ -4,11 +4,13 @@
 use crate::cause;
 use crate::header::*;
 use crate::model::{Action, Answer, Event, Shown, State, Table, Version, CHARGE_ACCOUNTS};
+use crate::queue::{Entry, Queue};
 use crate::tree::{Line, Tree};
 
 /// Words of row 0, the head.
 pub const STARTED: usize = 0;
 pub const COUNTER: usize = 1;
+pub const QUEUE_LENGTH: usize = 3;
 /// Words of row n, action n. Each set has a word for every account, from here on, and the pending sums and own adds
 /// one for every charge account.
 pub const PARENT: usize = 0;
@@ -18,6 +20,10 @@ pub const READS: usize = 3;
 pub const WRITES: usize = READS + ACCOUNTS;
 pub const PENDING: usize = WRITES + ACCOUNTS;
 pub const OWN_ADDS: usize = PENDING + CHARGE_ACCOUNTS;
+/// Words of row i that are no part of action i: the entry at position i of the queue.
+pub const QUEUED: usize = OWN_ADDS + CHARGE_ACCOUNTS;
+pub const VERDICT: usize = QUEUED + 1;
+pub const READINESS: usize = QUEUED + 2;
 /// What the state's word says.
 pub const LIVE: u64 = 1;
 pub const COMMITTED: u64 = 2;
@@ -26,7 +32,7 @@ pub const ABORTED: u64 = 3;
 pub const LINE_NUMBER: usize = 1;
 pub const LINE_FIGURES: usize = 3;
 
-const _: () = assert!(ROW_WORDS == OWN_ADDS + CHARGE_ACCOUNTS, "a row ends with the own adds");
+const _: () = assert!(ROW_WORDS == READINESS + 1, "a row ends with an entry of the queue");
 const _: () = assert!(TABLE_WORDS == ROW_WORDS * (ACTIONS + 1), "a table is a head and a row for each action");
 const _: () = assert!(LINE_WORDS == LINE_FIGURES + 2 * CHARGE_ACCOUNTS, "a report's line ends with the figures");
 const _: () = assert!(BLOCK_AT == LINE_WORDS * ACTIONS, "a report has room for a line of each action");
@@ -219,9 +225,12 @@ pub fn answer(words: [u64; ANSWER_WORDS]) -> Answer {
         ANSWER_WRITTEN => Answer::Written,
         ANSWER_COMMITTED => Answer::Committed(first),
         ANSWER_FAILED => Answer::Failed(first, second),
-        ANSWER_ABORTED => Answer::Aborted(first),
+        ANSWER_ABORTED => Answer::Aborted(first, second),
         ANSWER_ADDED => Answer::Added,
         ANSWER_READ_SUM => Answer::ReadSum(version, third as i64),
+        ANSWER_ENTERED => Answer::Entered,
+        ANSWER_READY => Answer::Ready(first),
+        ANSWER_JUDGED_FAILED => Answer::JudgedFailed(first),
         _ => panic!("an answer of kind {kind}"),
     };
     assert_eq!(words, answer_words(a), "a number too many in an answer");
@@ -236,9 +245,12 @@ pub fn answer_words(a: Answer) -> [u64; ANSWER_WORDS] {
         Answer::Written => [ANSWER_WRITTEN, 0, 0, 0],
         Answer::Committed(t) => [ANSWER_COMMITTED, t, 0, 0],
         Answer::Failed(t, k) => [ANSWER_FAILED, t, k, 0],
-        Answer::Aborted(n) => [ANSWER_ABORTED, n, 0, 0],
+        Answer::Aborted(n, m) => [ANSWER_ABORTED, n, m, 0],
         Answer::Added => [ANSWER_ADDED, 0, 0, 0],
         Answer::ReadSum(v, sum) => [ANSWER_READ_SUM, v.holder, v.moves, sum as u64],
+        Answer::Entered => [ANSWER_ENTERED, 0, 0, 0],
+        Answer::Ready(m) => [ANSWER_READY, m, 0, 0],
+        Answer::JudgedFailed(m) => [ANSWER_JUDGED_FAILED, m, 0, 0],
     }
 }
 
@@ -260,44 +272,58 @@ fn state_word(s: State) -> u64 {
     }
 }
 
+fn action(row: &[u64]) -> Action {
+    let mut a = Action::new(row[PARENT]);
+    a.state = state(row[STATE]);
+    a.end = row[END];
+    for k in 0..ACCOUNTS {
+        a.reads[k] = row[READS + k].checked_sub(1);
+        a.writes[k] = row[WRITES + k];
+    }
+    for c in 0..CHARGE_ACCOUNTS {
+        a.pending[c] = row[PENDING + c] as i64;
+        a.own_adds[c] = row[OWN_ADDS + c] as i64;
+    }
+    a
+}
+
+fn entry(row: &[u64]) -> Entry {
+    Entry { number: row[QUEUED], verdict: row[VERDICT], readiness: row[READINESS] }
+}
+
 /// The structs that a table's words stand for; None for a table of another length.
 pub fn decode(words: &[u64]) -> Option<Table> {
     if words.len() != TABLE_WORDS {
         return None;
     }
-    let actions = words.chunks(ROW_WORDS).skip(1).map(|row| {
-        let mut a = Action::new(row[PARENT]);
-        a.state = state(row[STATE]);
-        a.end = row[END];
-        for k in 0..ACCOUNTS {
-            a.reads[k] = row[READS + k].checked_sub(1);
-            a.writes[k] = row[WRITES + k];
-        }
-        for c in 0..CHARGE_ACCOUNTS {
-            a.pending[c] = row[PENDING + c] as i64;
-            a.own_adds[c] = row[OWN_ADDS + c] as i64;
-        }
-        a
-    });
-    Some(Table { started: words[STARTED], counter: words[COUNTER], actions: actions.collect() })
+    let rows = || words.chunks(ROW_WORDS).skip(1);
+    let queue = Queue { length: words[QUEUE_LENGTH], places: rows().map(entry).collect() };
+    Some(Table { started: words[STARTED], counter: words[COUNTER], actions: rows().map(action).collect(), queue })
+}
+
+fn put_action(a: &Action, row: &mut [u64]) {
+    row[PARENT] = a.parent;
+    row[STATE] = state_word(a.state);
+    row[END] = a.end;
+    for k in 0..ACCOUNTS {
+        row[READS + k] = a.reads[k].map_or(0, |t| t + 1);
+        row[WRITES + k] = a.writes[k];
+    }
+    for c in 0..CHARGE_ACCOUNTS {
+        row[PENDING + c] = a.pending[c] as u64;
+        row[OWN_ADDS + c] = a.own_adds[c] as u64;
+    }
 }
 
 /// The table written over words of the right length; the head's other words stay.
 pub fn encode(t: &Table, words: &mut [u64]) {
     words[STARTED] = t.started;
     words[COUNTER] = t.counter;
-    for (row, a) in words.chunks_mut(ROW_WORDS).skip(1).zip(&t.actions) {
-        row[PARENT] = a.parent;
-        row[STATE] = state_word(a.state);
-        row[END] = a.end;
-        for k in 0..ACCOUNTS {
-            row[READS + k] = a.reads[k].map_or(0, |t| t + 1);
-            row[WRITES + k] = a.writes[k];
-        }
-        for c in 0..CHARGE_ACCOUNTS {
-            row[PENDING + c] = a.pending[c] as u64;
-            row[OWN_ADDS + c] = a.own_adds[c] as u64;
-        }
+    words[QUEUE_LENGTH] = t.queue.length;
+    let rows = words.chunks_mut(ROW_WORDS).skip(1);
+    for (row, (a, w)) in rows.zip(t.actions.iter().zip(&t.queue.places)) {
+        put_action(a, row);
+        row[QUEUED..].copy_from_slice(&[w.number, w.verdict, w.readiness]);
     }
 }
 

@@ -4,13 +4,13 @@
 use crate::cause;
 use crate::coverage::Coverage;
 use crate::dayfile::event_bytes;
-use crate::generate::{any_base, bytes, events, shape};
+use crate::generate::{any_base, bytes, events, style};
 use crate::header::{ACCOUNTS, ANSWER_WORDS, CARD_BYTES, EVENT_COMMIT, SHADOW_BYTES, TABLE_WORDS};
 use crate::library::{answer, encode, Lent};
-use crate::model::{amount_in, base_card, Answer, Event, Ledger, Shown, Table, FIRST_CHARGE, STORE};
+use crate::model::{amount_in, base_card, Answer, Event, Leaver, Ledger, Shown, Table, FIRST_CHARGE, STORE};
 use crate::random::Random;
 use crate::same::{same, same_bytes, same_lent, same_words, Compared};
-use crate::serial::{added_in_r, serial_run, Given};
+use crate::serial::{added_in_r, serial_run, Fed, Given};
 use crate::shrink::{described, smallest_list};
 use crate::trees::tree_of_list;
 use std::collections::HashMap;
@@ -40,38 +40,69 @@ impl Opening {
     }
 }
 
-/// A list, event by event: answer, table, both stores, and what a look shows; then the tree, the serial run, and the
-/// same list in one call.
-fn list(opening: &Opening, events: &[Event], seen: &mut Coverage) -> Compared {
-    let mut lent = opening.lend();
-    let mut ledger = Ledger::new(opening.base.clone(), opening.shadow.clone());
-    let mut expected = vec![0; TABLE_WORDS];
-    let mut answers = Vec::with_capacity(events.len());
-    let mut given: HashMap<usize, Given> = HashMap::new();
-    for (i, e) in events.iter().enumerate() {
-        let a = lent.event(e);
-        let behind = reads_behind(&ledger.table, e);
-        same("answer", a, ledger.event(e))?;
-        encode(&ledger.table, &mut expected);
-        same_words(&lent.table, &expected)?;
-        same_bytes("base store", &lent.base, &ledger.base)?;
-        same_bytes("shadow store", &lent.shadow, &ledger.shadow)?;
-        let shown = lent.look(e.number, e.account);
-        same("look", shown, ledger.look(e.number, e.account))?;
+/// Both engines on a list, and what it has got so far.
+struct Played {
+    lent: Lent,
+    ledger: Ledger,
+    /// The second engine's table as words.
+    words: Vec<u64>,
+    answers: Vec<Answer>,
+    /// For each event those that committed by leaving the queue at it. The library's answers don't say who; but its
+    /// table has been the second engine's after every event.
+    left: Vec<Vec<u64>>,
+    given: HashMap<usize, Given>,
+}
+
+impl Played {
+    fn new(opening: &Opening) -> Played {
+        let ledger = Ledger::new(opening.base.clone(), opening.shadow.clone());
+        let (words, answers, left) = (vec![0; TABLE_WORDS], Vec::new(), Vec::new());
+        Played { lent: opening.lend(), ledger, words, answers, left, given: HashMap::new() }
+    }
+
+    /// One event: answer, table, both stores, and what a look shows.
+    fn event(&mut self, e: &Event, seen: &mut Coverage) -> Compared {
+        let (behind, queue) = (reads_behind(&self.ledger.table, e), self.ledger.table.queue.clone());
+        let (a, outcome) = (self.lent.event(e), self.ledger.outcome(e));
+        same("answer", a, outcome.answer)?;
+        encode(&self.ledger.table, &mut self.words);
+        same_words(&self.lent.table, &self.words)?;
+        same_bytes("base store", &self.lent.base, &self.ledger.base)?;
+        same_bytes("shadow store", &self.lent.shadow, &self.ledger.shadow)?;
+        let shown = self.lent.look(e.number, e.account);
+        same("look", shown, self.ledger.look(e.number, e.account))?;
         if let (Some(amount), Ok(Shown { card, .. })) = (read_amount(a), shown) {
-            given.insert(i, Given { card, amount });
+            self.given.insert(self.answers.len(), Given { card, amount });
         }
         seen.answer(e, a);
+        seen.look(shown);
+        seen.queues.event(&queue, &self.ledger.table.queue, &outcome);
         if let Answer::Committed(_) = a {
             seen.reads_behind += behind;
         }
-        answers.push(a);
+        self.answers.push(a);
+        self.left.push(committed(&outcome.left));
+        Ok(())
     }
+}
+
+fn committed(left: &[Leaver]) -> Vec<u64> {
+    left.iter().filter(|w| w.committed).map(|w| w.number).collect()
+}
+
+/// A list, event by event; then the tree, the serial run, and the same list in one call.
+fn list(opening: &Opening, events: &[Event], seen: &mut Coverage) -> Compared {
+    let mut played = Played::new(opening);
+    for e in events {
+        played.event(e, seen)?;
+    }
+    let Played { lent, ledger, answers, left, given, .. } = played;
     same("the two numbers", lent.two_numbers(), (ledger.table.started, ledger.table.counter))?;
     seen.lists += 1;
     tree_of_list(&lent, &opening.base, seen)?;
-    held_to_serial_run(opening, events, &answers, &given, &lent.base, seen)?;
-    nothing_lost(opening, events, &answers, &lent.base, seen)?;
+    let fed = Fed { events, answers: &answers, left: &left };
+    held_to_serial_run(opening, fed, &given, &lent.base, seen)?;
+    nothing_lost(opening, fed, &lent.base, seen)?;
     in_one_call(opening, events, &answers, &lent, seen)
 }
 
@@ -100,13 +131,12 @@ fn read_amount(a: Answer) -> Option<Option<i128>> {
 /// The claim of docs/RULES.md, 6.6, by running: the serial run against what the library showed and left.
 fn held_to_serial_run(
     opening: &Opening,
-    events: &[Event],
-    answers: &[Answer],
+    fed: Fed,
     given: &HashMap<usize, Given>,
     base: &[u8],
     seen: &mut Coverage,
 ) -> Compared {
-    let serial = serial_run(events, answers, &opening.base);
+    let serial = serial_run(fed, &opening.base);
     for (event, here) in &serial.reads {
         let what = format!("serial run: what was read at event {}", event + 1);
         same(&what, given.get(event), Some(here))?;
@@ -117,8 +147,8 @@ fn held_to_serial_run(
 }
 
 /// Of each charge account what stood there and what was added make what stands there (docs/RULES.md, 6.7).
-fn nothing_lost(opening: &Opening, events: &[Event], answers: &[Answer], base: &[u8], seen: &mut Coverage) -> Compared {
-    for (charge, added) in added_in_r(events, answers).into_iter().enumerate() {
+fn nothing_lost(opening: &Opening, fed: Fed, base: &[u8], seen: &mut Coverage) -> Compared {
+    for (charge, added) in added_in_r(fed).into_iter().enumerate() {
         let account = FIRST_CHARGE + charge;
         let amount = |store: &[u8]| i128::from(amount_in(&store[base_card(account)]));
         same(&format!("the amount of account {account}"), amount(base), amount(&opening.base) + added)?;
@@ -151,10 +181,10 @@ pub fn check_lists(count: u64, seed: u64, seen: &mut Coverage) -> Compared {
     let mut done = 0;
     while done < count {
         let opening = Opening::any(&mut r);
-        let (shape, in_bytes) = (shape(&mut r), r.one_in(2));
+        let (style, in_bytes) = (style(&mut r), r.one_in(2));
         let longest = *r.pick(&LONGEST);
         let length = 1 + r.below(longest) as usize;
-        let events = events(&mut r, &opening.base, length, shape, in_bytes);
+        let events = events(&mut r, &opening.base, length, style, in_bytes);
         if let Err(text) = list(&opening, &events, seen) {
             let differs = |part: &[Event]| list(&opening, part, &mut Coverage::default()).is_err();
             let small = smallest_list(&events, &opening.base, differs);

@@ -3,6 +3,7 @@
 
 use crate::cause;
 use crate::header::*;
+use crate::queue::Queue;
 
 const _: () = assert!(BASE_BYTES == ACCOUNTS * CARD_BYTES, "the base store has a card for each account");
 const _: () = assert!(SHADOW_BYTES == ACTIONS * BASE_BYTES, "the shadow store has as much for each action");
@@ -100,6 +101,7 @@ pub struct Table {
     pub counter: u64,
     /// Action n is the entry n - 1; entries above the last start may hold anything.
     pub actions: Vec<Action>,
+    pub queue: Queue,
 }
 
 /// Why a table is not sound.
@@ -114,12 +116,17 @@ pub enum Unsound {
     EndTime,
     EndTimeTwice,
     Pending,
+    QueueLength,
+    QueuedNobody,
+    QueuedNotLive,
+    QueuedChildLive,
+    QueuedTwice,
 }
 
 impl Table {
     pub fn new() -> Table {
         let nothing = Action { state: State::Unknown(0), ..Action::new(STORE) };
-        Table { started: 0, counter: 0, actions: vec![nothing; ACTIONS] }
+        Table { started: 0, counter: 0, actions: vec![nothing; ACTIONS], queue: Queue::new() }
     }
 
     pub fn action(&self, n: u64) -> &Action {
@@ -145,7 +152,7 @@ impl Table {
         for (i, a) in begun.iter().enumerate() {
             self.action_soundness(i, a)?;
         }
-        Ok(())
+        self.queue_soundness()
     }
 
     fn action_soundness(&self, i: usize, a: &Action) -> Result<(), Unsound> {
@@ -174,6 +181,29 @@ impl Table {
         }
         if (0..CHARGE_ACCOUNTS).any(|c| a.pending[c] != 0 && !a.has_charged(c)) {
             return Err(Unsound::Pending);
+        }
+        Ok(())
+    }
+
+    fn queue_soundness(&self) -> Result<(), Unsound> {
+        if self.queue.length > ACTIONS as u64 {
+            return Err(Unsound::QueueLength);
+        }
+        let numbers: Vec<u64> = self.queue.waiting().iter().map(|w| w.number).collect();
+        for &n in &numbers {
+            if n == STORE || n > self.started {
+                return Err(Unsound::QueuedNobody);
+            }
+            if self.action(n).state != State::Live {
+                return Err(Unsound::QueuedNotLive);
+            }
+            if self.has_live_child(n) {
+                return Err(Unsound::QueuedChildLive);
+            }
+        }
+        let again = |i: usize| numbers[..i].contains(&numbers[i]);
+        if (0..numbers.len()).any(again) {
+            return Err(Unsound::QueuedTwice);
         }
         Ok(())
     }
@@ -230,6 +260,14 @@ impl Table {
         }
         first
     }
+
+    /// Whether an action that enters the queue now has failed: for a clash, or for what a queued sibling has written.
+    fn fails_at_enter(&self, n: u64) -> bool {
+        let me = self.action(n);
+        let meets =
+            |b: &Action| b.parent == me.parent && (0..ACCOUNTS).any(|k| b.writes[k] != 0 && me.reads[k].is_some());
+        self.first_clash(n).is_some() || self.queue.waiting().iter().any(|w| meets(self.action(w.number)))
+    }
 }
 
 #[derive(Clone, PartialEq, Eq, Debug)]
@@ -249,10 +287,35 @@ pub enum Answer {
     Written,
     Committed(u64),
     Failed(u64, u64),
-    Aborted(u64),
+    /// How many became aborted, and how many then left the queue.
+    Aborted(u64, u64),
     Added,
     /// The nearest version of a charge account, and the sum there.
     ReadSum(Version, i64),
+    Entered,
+    /// How many then left the queue.
+    Ready(u64),
+    /// Of a judge: how many then left the queue.
+    JudgedFailed(u64),
+}
+
+/// An action that left the queue from its head; one that did not commit was aborted for its sums.
+#[derive(Clone, Copy, PartialEq, Eq, Debug)]
+pub struct Leaver {
+    pub number: u64,
+    pub committed: bool,
+}
+
+/// An event's answer, and who left the queue at it, in this order. No answer says who.
+pub struct Outcome {
+    pub answer: Answer,
+    pub left: Vec<Leaver>,
+}
+
+impl Outcome {
+    fn of(answer: Answer) -> Outcome {
+        Outcome { answer, left: Vec::new() }
+    }
 }
 
 /// What a look shows: a card, and how many moves up it was found.
@@ -281,6 +344,9 @@ fn shadow_card(n: u64, account: usize) -> std::ops::Range<usize> {
     from..from + CARD_BYTES
 }
 
+/// What a commit leaves of each charge account; none where the action has not added to it.
+type Sums = [Option<i64>; CHARGE_ACCOUNTS];
+
 impl Ledger {
     pub fn new(base: Vec<u8>, shadow: Vec<u8>) -> Ledger {
         Ledger { table: Table::new(), base, shadow }
@@ -294,10 +360,11 @@ impl Ledger {
         self.table.soundness().err().map(|_| cause::UNSOUND)
     }
 
-    /// The causes 3 to 8, 13, 14 and 9, in this order: all that are left but 15, which is asked where a sum is made.
+    /// The causes 3 to 8, 13, 14, 9, 16, 17 and 18, in this order: all that are left but 15, which is asked where a sum
+    /// is made.
     fn event_cause(&self, e: &Event) -> Option<u64> {
         let t = &self.table;
-        if !(EVENT_START..=EVENT_ADD).contains(&e.code) {
+        if !(EVENT_START..=EVENT_JUDGE).contains(&e.code) {
             return Some(cause::CODE);
         }
         let starts = e.code == EVENT_START;
@@ -307,35 +374,69 @@ impl Ledger {
         if e.number != STORE && t.action(e.number).state != State::Live {
             return Some(cause::NOT_LIVE);
         }
-        if starts {
-            return (t.started >= ACTIONS as u64).then_some(cause::TABLE_FULL);
+        if starts && t.started >= ACTIONS as u64 {
+            return Some(cause::TABLE_FULL);
         }
-        let beside_child = || e.code != EVENT_ABORT && t.has_live_child(e.number);
-        account_cause(e).or_else(|| beside_child().then_some(cause::CHILD_LIVE))
+        account_cause(e).or_else(|| self.child_cause(e)).or_else(|| self.queue_cause(e))
+    }
+
+    /// Cause 9.
+    fn child_cause(&self, e: &Event) -> Option<u64> {
+        let asks = !matches!(e.code, EVENT_START | EVENT_ABORT | EVENT_JUDGE);
+        (asks && self.table.has_live_child(e.number)).then_some(cause::CHILD_LIVE)
+    }
+
+    /// The causes 16, 17 and 18.
+    fn queue_cause(&self, e: &Event) -> Option<u64> {
+        let queue = &self.table.queue;
+        match e.code {
+            EVENT_ABORT => None,
+            EVENT_JUDGE => queue.entry(e.number).is_none_or(|w| w.is_ready()).then_some(cause::NOTHING_TO_JUDGE),
+            _ if queue.is_queued(e.number) => Some(cause::QUEUED),
+            EVENT_COMMIT => (queue.length != 0).then_some(cause::QUEUE_FIRST),
+            _ => None,
+        }
     }
 
     /// One event on any table and stores.
     pub fn event(&mut self, e: &Event) -> Answer {
-        match self.stores_cause() {
-            Some(cause) => Answer::Refused(cause),
-            None => self.sound_event(e),
-        }
+        self.outcome(e).answer
     }
 
     /// One event on a sound table over stores that fit.
     pub fn sound_event(&mut self, e: &Event) -> Answer {
-        if let Some(cause) = self.event_cause(e) {
-            return Answer::Refused(cause);
+        self.sound_outcome(e).answer
+    }
+
+    /// What one event does to any table and stores.
+    pub fn outcome(&mut self, e: &Event) -> Outcome {
+        match self.stores_cause() {
+            Some(cause) => Outcome::of(Answer::Refused(cause)),
+            None => self.sound_outcome(e),
         }
-        let done = match e.code {
+    }
+
+    fn sound_outcome(&mut self, e: &Event) -> Outcome {
+        if let Some(cause) = self.event_cause(e) {
+            return Outcome::of(Answer::Refused(cause));
+        }
+        match e.code {
+            EVENT_ABORT => self.abort(e.number),
+            EVENT_JUDGE => self.judge(e.number),
+            _ => Outcome::of(self.beside_head(e).unwrap_or_else(Answer::Refused)),
+        }
+    }
+
+    /// An event that does not try the queue's head.
+    fn beside_head(&mut self, e: &Event) -> Result<Answer, u64> {
+        match e.code {
             EVENT_START => Ok(self.start(e.number)),
             EVENT_READ => self.read(e.number, e.account as usize),
             EVENT_WRITE => Ok(self.write(e.number, e.account as usize, &e.card)),
             EVENT_COMMIT => self.commit(e.number),
             EVENT_ADD => self.add(e.number, e.account as usize - FIRST_CHARGE, amount_in(&e.card)),
-            _ => Ok(self.abort(e.number)),
-        };
-        done.unwrap_or_else(Answer::Refused)
+            _ => Ok(self.enter(e.number)),
+        }
     }
 
     fn start(&mut self, parent: u64) -> Answer {
@@ -385,6 +486,11 @@ impl Ledger {
             return Ok(Answer::Failed(end, account));
         }
         let sums = self.sums_left(self.table.action(n))?;
+        Ok(Answer::Committed(self.pass(n, &sums)))
+    }
+
+    /// A commit that passes and leaves these sums; its end time.
+    fn pass(&mut self, n: u64, sums: &Sums) -> u64 {
         let wrote = self.table.action(n).wrote_something();
         if wrote {
             self.table.counter += 1;
@@ -395,15 +501,15 @@ impl Ledger {
         me.end = end;
         let me = me.clone();
         self.hand_up_cards(n, &me);
-        self.hand_up_sums(me.parent, &sums);
+        self.hand_up_sums(me.parent, sums);
         if me.parent != STORE {
             join(self.table.action_mut(me.parent), &me);
         }
-        Ok(Answer::Committed(end))
+        end
     }
 
     /// What an action's commit leaves of each charge account in its write set, at its parent or in the base store.
-    fn sums_left(&self, me: &Action) -> Result<[Option<i64>; CHARGE_ACCOUNTS], u64> {
+    fn sums_left(&self, me: &Action) -> Result<Sums, u64> {
         let mut sums = [None; CHARGE_ACCOUNTS];
         for c in (0..CHARGE_ACCOUNTS).filter(|&c| me.has_charged(c)) {
             let above = match me.parent {
@@ -415,7 +521,7 @@ impl Ledger {
         Ok(sums)
     }
 
-    fn hand_up_sums(&mut self, parent: u64, sums: &[Option<i64>]) {
+    fn hand_up_sums(&mut self, parent: u64, sums: &Sums) {
         for (c, sum) in sums.iter().enumerate() {
             let Some(sum) = *sum else { continue };
             match parent {
@@ -436,14 +542,54 @@ impl Ledger {
         }
     }
 
-    fn abort(&mut self, n: u64) -> Answer {
+    fn enter(&mut self, n: u64) -> Answer {
+        let failed = self.table.fails_at_enter(n);
+        self.table.queue.put_behind(n, failed);
+        Answer::Entered
+    }
+
+    /// Goes by the verdict that the entry has, whatever has come about since it was put there.
+    fn judge(&mut self, n: u64) -> Outcome {
+        let failed = self.table.queue.entry(n).is_some_and(|w| w.has_failed());
+        if failed {
+            self.table.queue.take_out(|m| m == n);
+            self.table.action_mut(n).state = State::Aborted;
+        } else {
+            self.table.queue.make_ready(n);
+        }
+        let left = self.try_head();
+        let count = left.len() as u64;
+        let answer = if failed { Answer::JudgedFailed(count) } else { Answer::Ready(count) };
+        Outcome { answer, left }
+    }
+
+    /// Lets the head leave while it is ready, one after the other. Of each only its sums are asked.
+    fn try_head(&mut self) -> Vec<Leaver> {
+        let mut left = Vec::new();
+        while let Some(number) = self.table.queue.ready_head() {
+            self.table.queue.take_out(|m| m == number);
+            let sums = self.sums_left(self.table.action(number));
+            match &sums {
+                Ok(sums) => {
+                    self.pass(number, sums);
+                }
+                Err(_) => self.table.action_mut(number).state = State::Aborted,
+            }
+            left.push(Leaver { number, committed: sums.is_ok() });
+        }
+        left
+    }
+
+    fn abort(&mut self, n: u64) -> Outcome {
         let fallen: Vec<u64> = (1..=self.table.started)
             .filter(|&m| self.table.action(m).state == State::Live && self.table.is_at_or_below(m, n))
             .collect();
         for &m in &fallen {
             self.table.action_mut(m).state = State::Aborted;
         }
-        Answer::Aborted(fallen.len() as u64)
+        self.table.queue.take_out(|m| fallen.contains(&m));
+        let left = self.try_head();
+        Outcome { answer: Answer::Aborted(fallen.len() as u64, left.len() as u64), left }
     }
 
     /// The card at the nearest version, or why it can't be had.

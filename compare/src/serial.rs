@@ -1,9 +1,34 @@
-//! The serial run of R (docs/RULES.md, 6), from the events, the answers they got and the opening base store alone.
+//! The serial run of R (docs/RULES.md, 6), from the events, the answers they got, who committed by leaving the queue at
+//! each, and the opening base store alone.
 
 use crate::header::ACCOUNTS;
 use crate::model::{amount_in, base_card, charge_of, put_amount, Answer, Card, Event};
 use crate::model::{CHARGE_ACCOUNTS, FIRST_CHARGE, STORE};
 use std::collections::HashMap;
+
+/// What it is fed beside the opening store. Of each event there is an answer, and a list of those that committed by
+/// leaving the queue at it, in the order in which they left.
+#[derive(Clone, Copy)]
+pub struct Fed<'a> {
+    pub events: &'a [Event],
+    pub answers: &'a [Answer],
+    pub left: &'a [Vec<u64>],
+}
+
+impl<'a> Fed<'a> {
+    fn told(self) -> impl Iterator<Item = (&'a Event, Answer)> {
+        self.events.iter().zip(self.answers.iter().copied())
+    }
+
+    /// The actions that committed at an event, in the order of their commits (6.2).
+    fn commits_at(&self, event: usize) -> &'a [u64] {
+        match self.answers[event] {
+            Answer::Committed(_) => std::slice::from_ref(&self.events[event].number),
+            Answer::Ready(_) | Answer::Aborted(..) | Answer::JudgedFailed(_) => &self.left[event],
+            _ => &[],
+        }
+    }
+}
 
 enum Step {
     Read { event: usize, account: usize },
@@ -38,8 +63,8 @@ struct Run {
     out: Serial,
 }
 
-pub fn serial_run(events: &[Event], answers: &[Answer], opening: &[u8]) -> Serial {
-    let blocks = collect(events, answers);
+pub fn serial_run(fed: Fed, opening: &[u8]) -> Serial {
+    let blocks = collect(fed);
     let out = Serial { reads: HashMap::new(), base: opening.to_vec() };
     let mut run = Run { blocks, under_way: Vec::new(), out };
     for top in run.blocks.remove(&STORE).unwrap_or_default() {
@@ -51,28 +76,35 @@ pub fn serial_run(events: &[Event], answers: &[Answer], opening: &[u8]) -> Seria
 }
 
 /// Each action's block; the store's has the topactions that committed, in the order of their commits.
-fn collect(events: &[Event], answers: &[Answer]) -> HashMap<u64, Vec<Step>> {
+fn collect(fed: Fed) -> HashMap<u64, Vec<Step>> {
     let mut blocks: HashMap<u64, Vec<Step>> = HashMap::new();
     let mut parents: HashMap<u64, u64> = HashMap::new();
-    for (event, (e, a)) in events.iter().zip(answers).enumerate() {
-        let account = e.account as usize;
-        let (whose, step) = match *a {
-            Answer::Started(n) => {
-                parents.insert(n, e.number);
-                continue;
-            }
-            Answer::Refused(_) | Answer::Failed(..) | Answer::Aborted(_) => continue,
-            Answer::Read(_) | Answer::ReadSum(..) => (e.number, Step::Read { event, account }),
-            Answer::Written => {
-                let card = e.card.as_slice().try_into().expect("a card's length");
-                (e.number, Step::Write { account, card })
-            }
-            Answer::Added => (e.number, Step::Add { charge: account - FIRST_CHARGE, amount: amount_in(&e.card) }),
-            Answer::Committed(_) => (parents[&e.number], Step::Child { number: e.number }),
-        };
-        blocks.entry(whose).or_default().push(step);
+    for (event, (e, a)) in fed.told().enumerate() {
+        if let Answer::Started(n) = a {
+            parents.insert(n, e.number);
+        }
+        if let Some(step) = own_step(event, e, a) {
+            blocks.entry(e.number).or_default().push(step);
+        }
+        for &number in fed.commits_at(event) {
+            blocks.entry(parents[&number]).or_default().push(Step::Child { number });
+        }
     }
     blocks
+}
+
+/// What an action did itself at an event.
+fn own_step(event: usize, e: &Event, a: Answer) -> Option<Step> {
+    let account = e.account as usize;
+    match a {
+        Answer::Read(_) | Answer::ReadSum(..) => Some(Step::Read { event, account }),
+        Answer::Written => {
+            let card = e.card.as_slice().try_into().expect("a card's length");
+            Some(Step::Write { account, card })
+        }
+        Answer::Added => Some(Step::Add { charge: account - FIRST_CHARGE, amount: amount_in(&e.card) }),
+        _ => None,
+    }
 }
 
 impl Run {
@@ -137,24 +169,19 @@ fn settle(base: &mut [u8], own: &Own) {
     for (charge, sum) in own.sums.iter().enumerate() {
         let card = &mut base[base_card(FIRST_CHARGE + charge)];
         let amount = i128::from(amount_in(card)) + sum;
-        put_amount(card, amount.try_into().expect("a commit's sum is an amount, or it is refused"));
+        put_amount(card, amount.try_into().expect("what commits leaves amounts"));
     }
 }
 
 /// All that actions in R have added to each charge account (docs/RULES.md, 6.7). It takes R by its words (6.3), and not
 /// by blocks.
-pub fn added_in_r(events: &[Event], answers: &[Answer]) -> [i128; CHARGE_ACCOUNTS] {
+pub fn added_in_r(fed: Fed) -> [i128; CHARGE_ACCOUNTS] {
     let (mut parents, mut committed) = (HashMap::new(), HashMap::new());
-    for (e, a) in events.iter().zip(answers) {
-        match *a {
-            Answer::Started(n) => {
-                parents.insert(n, e.number);
-            }
-            Answer::Committed(_) => {
-                committed.insert(e.number, parents[&e.number]);
-            }
-            _ => {}
+    for (event, (e, a)) in fed.told().enumerate() {
+        if let Answer::Started(n) = a {
+            parents.insert(n, e.number);
         }
+        committed.extend(fed.commits_at(event).iter().map(|n| (*n, parents[n])));
     }
     let is_in_r = |mut n: u64| {
         while let Some(&parent) = committed.get(&n) {
@@ -163,8 +190,8 @@ pub fn added_in_r(events: &[Event], answers: &[Answer]) -> [i128; CHARGE_ACCOUNT
         n == STORE
     };
     let mut added = [0; CHARGE_ACCOUNTS];
-    for (e, a) in events.iter().zip(answers) {
-        if *a == Answer::Added && is_in_r(e.number) {
+    for (e, a) in fed.told() {
+        if a == Answer::Added && is_in_r(e.number) {
             added[e.account as usize - FIRST_CHARGE] += i128::from(amount_in(&e.card));
         }
     }

@@ -1,0 +1,182 @@
+//! Cases as scripts, in the words of docs/RULES.md, 13. A step is an event, with its answer behind ` = ` where that is
+//! not just started, written, added or entered; or something that is put into what is lent, or asked of it, between
+//! events. Both engines are held to every step.
+
+use crate::header::*;
+use crate::library::{decode, encode, Lent, ABORTED, COMMITTED, LIVE};
+use crate::library::{COUNTER, END, PENDING, QUEUED, QUEUE_LENGTH, STATE};
+use crate::model::{amount_in, base_card, put_amount, Answer, Event, Ledger, Shown, Table, FIRST_CHARGE};
+use crate::same::{same, same_lent, Compared};
+
+/// Both engines on one ledger, which is the same after every step.
+struct Both {
+    lent: Lent,
+    ledger: Ledger,
+}
+
+fn number(word: &str) -> i128 {
+    word.parse().unwrap_or_else(|_| panic!("a script has {word} where a number stands"))
+}
+
+/// An event that has no card of its own.
+fn bare(code: u64, number: i128, account: i128) -> Event {
+    Event { code, number: number as u64, account: account as u64, card: vec![0; CARD_BYTES] }
+}
+
+fn event(verb: &str, numbers: &[i128]) -> Event {
+    if let Some(parent) = verb.strip_prefix('+') {
+        return bare(EVENT_START, number(parent), 0);
+    }
+    match (verb, numbers) {
+        ("r", &[n, k]) => bare(EVENT_READ, n, k),
+        ("w", &[n, k, b]) => Event { card: vec![b as u8; CARD_BYTES], ..bare(EVENT_WRITE, n, k) },
+        ("c", &[n]) => bare(EVENT_COMMIT, n, 0),
+        ("a", &[n]) => bare(EVENT_ABORT, n, 0),
+        ("d", &[n, k, x]) => {
+            let mut e = bare(EVENT_ADD, n, k);
+            put_amount(&mut e.card, x as i64);
+            e
+        }
+        ("e", &[n]) => bare(EVENT_ENTER, n, 0),
+        ("j", &[n]) => bare(EVENT_JUDGE, n, 0),
+        ("code", &[code]) => bare(code as u64, 1, 0),
+        _ => panic!("a script has the step {verb} {numbers:?}"),
+    }
+}
+
+fn state(word: u64) -> &'static str {
+    match word {
+        LIVE => "live",
+        COMMITTED => "committed",
+        ABORTED => "aborted",
+        _ => "of no state",
+    }
+}
+
+fn joined(words: impl IntoIterator<Item = u64>) -> String {
+    words.into_iter().map(|w| w.to_string()).collect::<Vec<_>>().join(" ")
+}
+
+/// A card's byte, where all are the same.
+fn fill(card: &[u8]) -> String {
+    if card.iter().all(|b| *b == card[0]) {
+        card[0].to_string()
+    } else {
+        format!("{card:?}")
+    }
+}
+
+fn look_said(look: Result<Shown, u64>) -> String {
+    match look {
+        Ok(Shown { card, moves }) => format!("{} {moves}", fill(&card)),
+        Err(cause) => Answer::Refused(cause).to_string(),
+    }
+}
+
+/// Whether an answer is one that a script leaves out.
+fn is_plain(a: Answer) -> bool {
+    matches!(a, Answer::Started(_) | Answer::Written | Answer::Added | Answer::Entered)
+}
+
+fn held(found: &str, said: &str) -> Compared {
+    if found == said {
+        return Ok(());
+    }
+    Err(format!("both engines have {found}, and the case {said}"))
+}
+
+impl Both {
+    fn new() -> Both {
+        let (base, shadow) = (vec![0; BASE_BYTES], vec![0; SHADOW_BYTES]);
+        let lent = Lent { table: vec![0; TABLE_WORDS], base: base.clone(), shadow: shadow.clone() };
+        Both { lent, ledger: Ledger { table: Table::new(), base, shadow } }
+    }
+
+    /// A word of row n.
+    fn word(&mut self, n: i128, field: usize) -> &mut u64 {
+        &mut self.lent.table[ROW_WORDS * n as usize + field]
+    }
+
+    /// Puts something into what is lent; whether the step is such a one.
+    fn put(&mut self, verb: &str, numbers: &[i128]) -> bool {
+        match (verb, numbers) {
+            ("amount", &[account, amount]) => {
+                put_amount(&mut self.lent.base[base_card(account as usize)], amount as i64)
+            }
+            ("pending", &[n, account, sum]) => {
+                *self.word(n, PENDING + account as usize - FIRST_CHARGE) = sum as i64 as u64
+            }
+            ("end", &[n, time]) => *self.word(n, END) = time as u64,
+            ("length", &[length]) => *self.word(0, QUEUE_LENGTH) = length as u64,
+            ("entry", &[position, number, verdict, readiness]) => {
+                for (i, w) in [number, verdict, readiness].into_iter().enumerate() {
+                    *self.word(position, QUEUED + i) = w as u64;
+                }
+            }
+            _ => return false,
+        }
+        self.ledger.table = decode(&self.lent.table).expect("a table's length");
+        self.ledger.base.copy_from_slice(&self.lent.base);
+        true
+    }
+
+    /// What is asked, if the step asks something.
+    fn asked(&mut self, verb: &str, numbers: &[i128]) -> Result<Option<String>, String> {
+        let found = match (verb, numbers) {
+            ("amount", &[account]) => amount_in(&self.lent.base[base_card(account as usize)]).to_string(),
+            ("card", &[account]) => fill(&self.lent.base[base_card(account as usize)]),
+            ("counter", []) => self.word(0, COUNTER).to_string(),
+            ("length", []) => self.word(0, QUEUE_LENGTH).to_string(),
+            ("state", &[n]) => state(*self.word(n, STATE)).to_string(),
+            ("end", &[n]) => self.word(n, END).to_string(),
+            ("entry", &[position]) => joined((QUEUED..ROW_WORDS).map(|field| *self.word(position, field))),
+            ("look", &[n, account]) => {
+                let (n, account) = (n as u64, account as u64);
+                let shown = self.lent.look(n, account);
+                same("look", shown, self.ledger.look(n, account))?;
+                look_said(shown)
+            }
+            _ => return Ok(None),
+        };
+        Ok(Some(found))
+    }
+
+    fn event(&mut self, e: &Event, said: Option<&str>) -> Compared {
+        let (a, theirs) = (self.lent.event(e), self.ledger.event(e));
+        same("answer", a, theirs)?;
+        let mut after =
+            Lent { base: self.ledger.base.clone(), shadow: self.ledger.shadow.clone(), ..self.lent.clone() };
+        encode(&self.ledger.table, &mut after.table);
+        same_lent(&self.lent, &after)?;
+        match said {
+            None if is_plain(a) => Ok(()),
+            _ => held(&a.to_string(), said.unwrap_or("an answer that is left out")),
+        }
+    }
+
+    fn step(&mut self, step: &str) -> Compared {
+        let (what, said) = step.split_once(" = ").map_or((step, None), |(what, said)| (what, Some(said)));
+        let (times, what) = what.split_once(" * ").map_or((1, what), |(times, what)| (number(times), what));
+        let mut words = what.split_whitespace();
+        let (verb, numbers) = (words.next().unwrap_or_default(), words.map(number).collect::<Vec<_>>());
+        match said {
+            None if self.put(verb, &numbers) => return Ok(()),
+            None => {}
+            Some(said) => {
+                if let Some(found) = self.asked(verb, &numbers)? {
+                    return held(&found, said);
+                }
+            }
+        }
+        (0..times).try_for_each(|_| self.event(&event(verb, &numbers), said))
+    }
+}
+
+/// A script on a new table over stores of zeros, its steps parted by semicolons.
+pub fn check_script(script: &str) -> Compared {
+    let mut both = Both::new();
+    for step in script.split(';').map(str::trim) {
+        both.step(step).map_err(|text| format!("{text}\nat the step {step}"))?;
+    }
+    Ok(())
+}
