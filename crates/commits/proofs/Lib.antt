@@ -1,4 +1,3 @@
 -- Facts that the proofs of a commit use.
-mod CommitCopies
-mod BaseAmounts
 mod FittingSums
+mod NextTurn

@@ -1,3 +1,3 @@
--- The cards that a commit copies, the sums that it makes, and what it asks of the counter.
-pub mod Copy
-pub mod Settle
+-- What the parts of a commit ask of their callers, and the sums that are no amounts.
+pub mod Fit
+pub mod Outside

@@ -8,11 +8,11 @@ ghost use mathlib.Core.Bool.{false};
 ghost use Rattle.rules.specs.Cause.{isCommitOutside};
 ghost use Rattle.rules.specs.Clash.{firstClash};
 ghost use Rattle.rules.specs.declared.Found.the-variants.{Nothing};
-ghost use Rattle.rules.specs.Step.{outcomeOf, commitTime, committedUnder, commit};
-ghost use Rattle.commits.specs.Settle.{unlessOutside};
-use crate::copy::copy_cards;
+ghost use Rattle.rules.specs.Commit.{commitTime, committedUnder};
+ghost use Rattle.rules.specs.Step.{outcomeOf, commit};
+ghost use Rattle.commits.specs.Outside.{unlessOutside};
+use crate::copy::copy_down;
 use crate::end::end;
-use crate::settle::settle;
 use crate::sums::is_outside;
 use rows::fields::parent;
 use rows::fields::set_state;
@@ -22,11 +22,9 @@ use rules::Found;
 use rules::cause::SUM;
 use rules::table::ABORTED;
 use rules::table::STORE;
-use stores::cards::take_cards;
-use stores::place::cards_place;
 use validation::search::first_clash;
 
-// A commit that passes; back comes the end time.
+// A commit that passes: the copies, the end, and the sets for a parent that is an action. Back comes the end time.
 pub(crate) fn pass(table: &mut [u64], base: &mut [u8], shadow: &mut [u8], n: u64) -> u64
     requires { ⌜ Sound (now table) ⌝ }
     requires { ⌜ IsStarted (now table) n ⌝ }
@@ -38,15 +36,11 @@ pub(crate) fn pass(table: &mut [u64], base: &mut [u8], shadow: &mut [u8], n: u64
         (parentOf (now (table .entry)) n) ⌝ }
 {
     let p = parent(table, n);
-    let cards = take_cards(shadow, n);
-    if p == STORE {
-        copy_cards(table, n, &cards, base, 0);
-        settle(table, n, base);
-        return end(table, n);
-    }
-    copy_cards(table, n, &cards, shadow, cards_place(p));
+    copy_down(table, base, shadow, n, p);
     let time = end(table, n);
-    join_sets(table, n, p);
+    if p != STORE {
+        join_sets(table, n, p);
+    }
     time
 }
 

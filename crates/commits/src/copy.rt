@@ -1,49 +1,28 @@
-// The cards that a commit copies.
+// All turns of a commit, from the last account down.
 ghost use mathlib.Core.Path.{_≡_};
-ghost use Rattle.rules.specs.Card.{IsAccount};
-ghost use Rattle.rows.specs.Row.{HasRow};
-ghost use Rattle.commits.specs.Copy.{CardsFit, copyAccount, copyOwn};
-use rows::fields::has_written;
-use rules::store::BASE_LENGTH;
+ghost use Rattle.rules.specs.Card.{StoresFit};
+ghost use Rattle.rules.specs.Table.{IsAction};
+ghost use Rattle.rules.specs.Ledger.{ledgerOf};
+ghost use Rattle.rules.specs.Commit.{copiedDown};
+ghost use Rattle.rows.specs.Row.{HasRow, AreTwo};
+ghost use Rattle.commits.specs.Fit.{SumsFit};
+use crate::turn::copy_one;
+use rules::store::ACCOUNTS;
 use rules::store::FIRST_ACCOUNT;
-use rules::store::FIRST_CHARGE;
-use stores::cards::copy_card;
-use stores::place::base_place;
 
-// The card of one account, if n has written it.
-fn copy_account(
-    table: &[u64],
-    n: u64,
-    cards: &[u8; BASE_LENGTH],
-    store: &mut [u8],
-    start: usize,
-    k: u64,
-)
+// What n's commit under p copies. The order is a rule (RULES 4.8): it decides what one finds between two turns.
+pub(crate) fn copy_down(table: &mut [u64], base: &mut [u8], shadow: &mut [u8], n: u64, p: u64)
     requires { ⌜ HasRow (now table) n ⌝ }
-    requires { ⌜ CardsFit (now store) start ⌝ }
-    requires { ⌜ IsAccount k ⌝ }
-    ensures { λ r. ⌜ now (store .exit)
-        ≡ copyAccount (now (table .entry)) n (now (cards .entry)) start (now (store .entry)) k ⌝ }
+    requires { ⌜ HasRow (now table) p ⌝ }
+    requires { ⌜ IsAction n × AreTwo n p ⌝ }
+    requires { ⌜ StoresFit (now base) (now shadow) ⌝ }
+    requires { ⌜ SumsFit (now table) (now base) n p ⌝ }
+    ensures { λ r. ⌜ ledgerOf (now (table .exit)) (now (base .exit)) (now (shadow .exit))
+        ≡ copiedDown (ledgerOf (now (table .entry)) (now (base .entry)) (now (shadow .entry))) n p 0 ⌝ }
 {
-    if has_written(table, n, k) {
-        let at = base_place(k);
-        copy_card(store, start + at, cards, at);
-    }
-}
-
-// Those of n's cards whose accounts it has written, copied to a store's cards from `start` on; a charge account has none.
-pub(crate) fn copy_cards(
-    table: &[u64],
-    n: u64,
-    cards: &[u8; BASE_LENGTH],
-    store: &mut [u8],
-    start: usize,
-)
-    requires { ⌜ HasRow (now table) n ⌝ }
-    requires { ⌜ CardsFit (now store) start ⌝ }
-    ensures { λ r. ⌜ now (store .exit) ≡ copyOwn (now (table .entry)) n (now (cards .entry)) start (now (store .entry)) ⌝ }
-{
-    for k in FIRST_ACCOUNT..FIRST_CHARGE {
-        copy_account(table, n, cards, store, start, k);
+    let mut k = ACCOUNTS;
+    while k != FIRST_ACCOUNT {
+        k -= 1;
+        copy_one(table, base, shadow, n, p, k);
     }
 }

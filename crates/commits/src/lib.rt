@@ -3,5 +3,6 @@ pub mod commit;
 mod copy;
 mod end;
 pub mod finish;
-mod settle;
+mod held;
 mod sums;
+mod turn;

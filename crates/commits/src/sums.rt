@@ -5,8 +5,8 @@ ghost use Rattle.rules.specs.Cause.{commitSum, isCommitOutside};
 ghost use Rattle.rules.specs.Sound.{IsStarted, Sound};
 ghost use Rattle.rules.specs.declared.Found.the-variants.{Nothing};
 ghost use Rattle.amounts.specs.Sum.{valueOf};
-ghost use Rattle.commits.specs.Settle.{isSumWrong};
-use amounts::bytes::word_at;
+ghost use Rattle.commits.specs.Outside.{isSumWrong};
+use crate::held::held_word;
 use amounts::sum::Sum;
 use amounts::sum::is_amount;
 use amounts::sum::of_word;
@@ -16,8 +16,6 @@ use rows::fields::parent;
 use rows::fields::pending;
 use rules::store::ACCOUNTS;
 use rules::store::FIRST_CHARGE;
-use rules::table::STORE;
-use stores::place::base_place;
 
 // What n's pending sum for the account makes with its parent's, or with the base amount.
 fn commit_sum(table: &[u64], base: &[u8], n: u64, k: u64) -> Sum
@@ -26,12 +24,8 @@ fn commit_sum(table: &[u64], base: &[u8], n: u64, k: u64) -> Sum
     requires { ⌜ IsCharge k ⌝ }
     ensures { λ r. ⌜ valueOf r ≡ commitSum (now (table .entry)) (now (base .entry)) n k ⌝ }
 {
-    let own = pending(table, n, k);
     let p = parent(table, n);
-    if p == STORE {
-        return plus(of_word(word_at(base, base_place(k))), own);
-    }
-    plus(of_word(pending(table, p, k)), own)
+    plus(of_word(held_word(table, base, p, k)), pending(table, n, k))
 }
 
 fn is_sum_wrong(table: &[u64], base: &[u8], n: u64, k: u64) -> bool

@@ -15,7 +15,7 @@ use Rattle.rules.specs.Ledger.{Ledger, ledgerOf}
 use Rattle.rules.specs.Step.{outcomeOf, start, read, write, add, commit, act, step}
 use Rattle.causes.proofs.Grouped.{Accepted, event-summed}
 use Rattle.events.specs.Sums.{readSays, readLeaves, addSays, addLeaves}
-use Rattle.commits.specs.Settle.{unlessOutside}
+use Rattle.commits.specs.Outside.{unlessOutside}
 use Rattle.dispatch.specs.Turn.{turn}
 
 -- an answer and a table that a sum decides, beside stores that stay, are an outcome that it decides

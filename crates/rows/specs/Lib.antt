@@ -1,3 +1,2 @@
--- What the functions on rows ask of their callers: of the rows, and of the sums that are joined.
+-- What the functions on rows ask of their callers.
 pub mod Row
-pub mod Join

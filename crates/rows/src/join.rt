@@ -1,22 +1,16 @@
-// The read set, the write set and the pending sums of a child joined to its parent's.
+// The read set and the write set of a child joined to its parent's.
 ghost use mathlib.Core.Path.{_≡_};
-ghost use Rattle.rules.specs.Card.{accounts, IsAccount, IsCharge, chargeAccounts};
-ghost use Rattle.rules.specs.Table.{withFields, readField, writeField, pendingField};
-ghost use Rattle.rules.specs.Step.{passesRead, earlierRead, joinedRead, joinedWrite, joinedPending, joinTable};
-ghost use Rattle.rows.specs.Join.{SumFits, SumsFit};
+ghost use Rattle.rules.specs.Card.{accounts, IsAccount};
+ghost use Rattle.rules.specs.Table.{withFields, readField, writeField};
+ghost use Rattle.rules.specs.Commit.{passesRead, earlierRead, joinedRead, joinedWrite, joinTable};
 ghost use Rattle.rows.specs.Row.{HasRow, AreTwo};
 use crate::fields::has_card;
 use crate::fields::has_written;
-use crate::fields::pending;
 use crate::fields::read_entry;
-use crate::fields::set_pending;
 use crate::fields::set_read_entry;
 use crate::fields::set_write_entry;
 use crate::fields::write_entry;
-use amounts::sum::of_word;
-use amounts::sum::plus;
 use rules::store::ACCOUNTS;
-use rules::store::FIRST_CHARGE;
 use rules::table::ENTERED;
 use rules::table::NO_ENTRY;
 
@@ -68,28 +62,13 @@ fn joined_write(table: &[u64], n: u64, p: u64, k: u64) -> u64
     write_entry(table, p, k)
 }
 
-// The word of p's pending sum with that of its child n, where n has added.
-fn joined_pending(table: &[u64], n: u64, p: u64, k: u64) -> u64
-    requires { ⌜ HasRow (now table) n ⌝ }
-    requires { ⌜ HasRow (now table) p ⌝ }
-    requires { ⌜ IsCharge k ⌝ }
-    requires { ⌜ SumFits (now table) n p k ⌝ }
-    ensures { λ r. ⌜ r ≡ joinedPending (now (table .entry)) n p k ⌝ }
-{
-    let own = pending(table, p, k);
-    if !has_written(table, n, k) {
-        return own;
-    }
-    let sum = plus(of_word(own), pending(table, n, k));
-    sum.low
-}
-
 // n's reads passed to p.
 fn join_reads(table: &mut [u64], n: u64, p: u64)
     requires { ⌜ HasRow (now table) n ⌝ }
     requires { ⌜ HasRow (now table) p ⌝ }
     requires { ⌜ AreTwo n p ⌝ }
-    ensures { λ r. ⌜ now (table .exit) ≡ withFields (now (table .entry)) p readField accounts (joinedRead (now (table .entry)) n p) ⌝ }
+    ensures { λ r. ⌜ now (table .exit)
+        ≡ withFields (now (table .entry)) p readField accounts (joinedRead (now (table .entry)) n p) ⌝ }
 {
     for k in 0..ACCOUNTS {
         let joined = joined_read(table, n, p, k);
@@ -102,7 +81,8 @@ fn join_writes(table: &mut [u64], n: u64, p: u64)
     requires { ⌜ HasRow (now table) n ⌝ }
     requires { ⌜ HasRow (now table) p ⌝ }
     requires { ⌜ AreTwo n p ⌝ }
-    ensures { λ r. ⌜ now (table .exit) ≡ withFields (now (table .entry)) p writeField accounts (joinedWrite (now (table .entry)) n p) ⌝ }
+    ensures { λ r. ⌜ now (table .exit)
+        ≡ withFields (now (table .entry)) p writeField accounts (joinedWrite (now (table .entry)) n p) ⌝ }
 {
     for k in 0..ACCOUNTS {
         let joined = joined_write(table, n, p, k);
@@ -110,31 +90,13 @@ fn join_writes(table: &mut [u64], n: u64, p: u64)
     }
 }
 
-// n's pending sums added to p's.
-fn join_pending(table: &mut [u64], n: u64, p: u64)
-    requires { ⌜ HasRow (now table) n ⌝ }
-    requires { ⌜ HasRow (now table) p ⌝ }
-    requires { ⌜ AreTwo n p ⌝ }
-    requires { ⌜ SumsFit (now table) n p ⌝ }
-    ensures { λ r. ⌜ now (table .exit)
-        ≡ withFields (now (table .entry)) p pendingField chargeAccounts (joinedPending (now (table .entry)) n p) ⌝ }
-{
-    for k in FIRST_CHARGE..ACCOUNTS {
-        let joined = joined_pending(table, n, p, k);
-        set_pending(table, p, k, joined);
-    }
-}
-
-// n's sets joined to those of its parent p, and n's pending sums added to p's. The reads come first: they go by the cards
-// that p has before it gets n's.
+// n's sets joined to those of its parent p. The reads come first: they go by the cards that p has before it gets n's.
 pub fn join_sets(table: &mut [u64], n: u64, p: u64)
     requires { ⌜ HasRow (now table) n ⌝ }
     requires { ⌜ HasRow (now table) p ⌝ }
     requires { ⌜ AreTwo n p ⌝ }
-    requires { ⌜ SumsFit (now table) n p ⌝ }
     ensures { λ r. ⌜ now (table .exit) ≡ joinTable (now (table .entry)) n p ⌝ }
 {
     join_reads(table, n, p);
     join_writes(table, n, p);
-    join_pending(table, n, p);
 }

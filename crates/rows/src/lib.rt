@@ -1,5 +1,5 @@
 // The table's rows: words, the fields of the head and of an action by name, the entries of a queue, an action's two sets and
-// pending sums, and these joined to its parent's.
+// pending sums, and the sets joined to its parent's.
 pub mod entries;
 pub mod fields;
 pub mod join;

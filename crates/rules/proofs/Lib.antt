@@ -1,5 +1,6 @@
 -- What is proved of the rules.
 pub mod Laws
+pub mod Copies
 pub mod Sound
 pub mod Clash
 pub mod Stores

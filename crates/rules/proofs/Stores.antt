@@ -1,5 +1,5 @@
 -- The two stores: what events leave as it was, and what looks and reads hand back.
-pub mod Copies
+pub mod LastFirst
 pub mod Leaves
 pub mod Committed
 pub mod Leavers

@@ -71,10 +71,6 @@ pub record StoresFit (base shadow : List ℕ) : Type 0 where
   pub baseFits : length base ≡ baseLength
   pub shadowFits : length shadow ≡ shadowLength
 
--- all bytes of action n's in the shadow store
-unfoldable pub ownCards : List ℕ → ℕ → List ℕ
-ownCards shadow n = take baseLength (drop (cardsPlace n) shadow)
-
 -- the card that stands at a place of a store
 unfoldable pub cardAt : List ℕ → ℕ → List ℕ
 cardAt store at = take cardLength (drop at store)

@@ -6,9 +6,10 @@ use lib.Dec.{leb, ltb, eqb}
 use lib.ListN.{length}
 use lib.IntN.{ℤ, _+ℤ_}
 use Rattle.rules.specs.Card.{accountCount, isCharge, chargeAccounts, cardLength, baseLength, shadowLength}
-use Rattle.rules.specs.Amount.{isAmount, isAddable, amountIn, baseAmount}
+use Rattle.rules.specs.Amount.{isAmount, isAddable, amountIn}
 use Rattle.rules.specs.Range.{any}
 use Rattle.rules.specs.Table.{mostActions, started, parentOf, hasWritten, pendingSum, ownAdds, isLive, hasLiveChild}
+use Rattle.rules.specs.Held.{heldSum}
 use Rattle.rules.specs.Sound.{sound}
 use Rattle.rules.specs.Queue.{theQueue, queueLength, isQueued, isQueuedReady}
 use Rattle.rules.specs.Event.{Event, startCode, judgeCode, isStart, isRead, isWrite, isCommit, isAbort, isAdd, isEnter, isJudge}
@@ -122,9 +123,7 @@ sumCause = 15
 
 -- the sum that n's commit makes for charge account k, at its parent or in the base store
 unfoldable pub commitSum : List ℕ → List ℕ → ℕ → ℕ → ℤ
-commitSum w base n k =
-    let p = parentOf w n in
-    cond (eqb p 0) (baseAmount base k) (pendingSum w p k) +ℤ pendingSum w n k
+commitSum w base n k = heldSum w base (parentOf w n) k +ℤ pendingSum w n k
 
 -- one of those for which n has written the account is outside; a commit with a clash makes none
 unfoldable pub isCommitOutside : List ℕ → List ℕ → ℕ → Found → Bool

@@ -4,6 +4,7 @@ pub mod Card
 pub mod Amount
 pub mod Table
 pub mod Ledger
+pub mod Held
 pub mod Walk
 pub mod Queue
 pub mod Sound
@@ -16,6 +17,8 @@ pub mod Search
 pub mod Verdict
 pub mod Cause
 pub mod Look
+pub mod Commit
+pub mod LastFirst
 pub mod Step
 pub mod Run
 pub mod Touch

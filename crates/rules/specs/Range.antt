@@ -1,7 +1,7 @@
 -- Runs of numbers, and what is asked of the members of a list or done for each: what the rules say of every account, of every
 -- action, or of every entry of a queue.
 -- Assumes nothing.
-use Prim.Native.Nat.{ℕ, zero, suc}
+use Prim.Native.Nat.{ℕ, zero, suc, _+_}
 use mathlib.Core.Bool.{Bool, true, false, cond, _&&_, _||_}
 use mathlib.Core.List.{List, [], _∷_}
 
@@ -9,6 +9,11 @@ use mathlib.Core.List.{List, [], _∷_}
 unfoldable pub upFrom : ℕ → ℕ → List ℕ
 upFrom a zero = []
 upFrom a (suc n) = a ∷ upFrom (suc a) n
+
+-- the same n numbers, falling
+unfoldable pub downTo : ℕ → ℕ → List ℕ
+downTo a zero = []
+downTo a (suc n) = (a + n) ∷ downTo a n
 
 -- f holds of one of them at least
 unfoldable pub any : {A : Type 0} → (A → Bool) → List A → Bool

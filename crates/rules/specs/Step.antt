@@ -1,6 +1,6 @@
 -- RULES 2 and 4: what each event answers and leaves; an event of any kind is `step`. Assumes nothing.
-use Prim.Native.Nat.{ℕ, zero, suc, _+_, min}
-use mathlib.Core.Bool.{Bool, true, false, cond, not, _&&_, _||_}
+use Prim.Native.Nat.{ℕ, zero, suc, _+_}
+use mathlib.Core.Bool.{Bool, true, false, cond, _||_}
 use mathlib.Core.List.{List, [], _∷_, _++_}
 use lib.Dec.{eqb}
 use lib.IntN.{ℤ, _+ℤ_}
@@ -8,12 +8,13 @@ use Rattle.rules.specs.declared.Answer.{Answer}
 use Rattle.rules.specs.declared.Answer.the-variants.{Started, Read, ReadSum, Written, Added, Entered, Ready, JudgedFailed, Committed, Failed, Aborted, Refused}
 use Rattle.rules.specs.Ledger.{Ledger, ledgerOf, withTable}
 use Rattle.rules.specs.Range.{count, fold}
-use Rattle.rules.specs.Card.{accounts, isCharge, basePlace, shadowPlace, cardAt, withCard}
-use Rattle.rules.specs.Amount.{amountWord, amountIn, withAmount, baseAmount}
-use Rattle.rules.specs.Table.{live, committed, aborted, started, withStarted, counter, withCounter, parentOf, withParent, withState, withEndTime, readEntry, withRead, hasRead, writeEntry, withWrite, entered, hasWritten, hasWrites, hasCard, pendingWord, withPending, pendingSum, ownAdds, withOwnAdds, withoutAdds, withSets, actions}
+use Rattle.rules.specs.Card.{isCharge, shadowPlace, withCard}
+use Rattle.rules.specs.Amount.{amountWord, amountIn}
+use Rattle.rules.specs.Table.{live, aborted, started, withStarted, counter, parentOf, withParent, withState, withEndTime, withRead, hasRead, withWrite, entered, hasCard, withPending, pendingSum, ownAdds, withOwnAdds, withoutAdds, withSets, actions}
 use Rattle.rules.specs.Walk.{isAbortedBy}
 use Rattle.rules.specs.Queue.{theQueue, queueLength, headOf, isHeadReady, isQueuedFailed, withTail, withReady, withoutBelow}
 use Rattle.rules.specs.Event.{Event, isStart, isRead, isWrite, isCommit, isAbort, isAdd, isEnter, isJudge}
+use Rattle.rules.specs.Commit.{commitTime, committedUnder}
 use Rattle.rules.specs.Cause.{isCommitOutside, causeOf}
 use Rattle.rules.specs.Nearest.{version, readSum}
 use Rattle.rules.specs.declared.Found.{Found}
@@ -83,76 +84,6 @@ unfoldable pub add : Ledger → ℕ → ℕ → List ℕ → Outcome
 add s n k card = record { answer = Added; after = withTable s (addTable (s .table) n k (amountIn card)) }
 
 -- ---- RULES 4.5 and 4.6: commit
-
--- the end time that a commit of n gets, and the counter that it leaves
-unfoldable pub commitTime : List ℕ → ℕ → ℕ
-commitTime w n = cond (hasWrites w n) (counter w + 1) 0
-
-unfoldable pub commitCounter : List ℕ → ℕ → ℕ
-commitCounter w n = cond (hasWrites w n) (counter w + 1) (counter w)
-
--- n's read of account k is passed to its parent p, but where p has a card for k already, before it gets n's
-abbrev pub passesRead : List ℕ → ℕ → ℕ → ℕ → Bool
-passesRead w n p k = hasRead w n k && not (hasCard w p k)
-
--- of a child's read entry and its parent's the one of the smaller time; the parent may have none
-abbrev pub earlierRead : ℕ → ℕ → ℕ
-earlierRead child parent = cond (eqb parent 0) child (min child parent)
-
--- p's read entry for account k after the commit of its child n
-abbrev pub joinedRead : List ℕ → ℕ → ℕ → ℕ → ℕ
-joinedRead w n p k = cond (passesRead w n p k) (earlierRead (readEntry w n k) (readEntry w p k)) (readEntry w p k)
-
--- p's write entry for account k after it; without a write of n's it stays
-abbrev pub joinedWrite : List ℕ → ℕ → ℕ → ℕ → ℕ
-joinedWrite w n p k = cond (hasWritten w n k) entered (writeEntry w p k)
-
--- the word of p's pending sum for charge account k after it; without a write of n's it stays
-abbrev pub joinedPending : List ℕ → ℕ → ℕ → ℕ → ℕ
-joinedPending w n p k = cond (hasWritten w n k) (amountWord (pendingSum w p k +ℤ pendingSum w n k)) (pendingWord w p k)
-
--- p's sets and pending sums with those of its child n
-unfoldable pub joinTable : List ℕ → ℕ → ℕ → List ℕ
-joinTable w n p = withSets w p (joinedRead w n p) (joinedWrite w n p) (joinedPending w n p)
-
--- state, end time and counter after n's commit passes
-abbrev pub endTable : List ℕ → ℕ → List ℕ
-endTable w n = withCounter (withEndTime (withState w n committed) n (commitTime w n)) (commitCounter w n)
-
--- the table after n's commit under p passes; p is 0 for the store
-unfoldable pub commitTable : List ℕ → ℕ → ℕ → List ℕ
-commitTable w n p =
-    let ended = endTable w n in
-    cond (eqb p 0) ended (joinTable ended n p)
-
--- each account that is chosen given its card, at its place in a store
-unfoldable pub putCards : (ℕ → Bool) → (ℕ → List ℕ) → (ℕ → ℕ) → List ℕ → List ℕ
-putCards chosen card place to = fold (λ k now. cond (chosen k) (withCard now (place k) (card k)) now) accounts to
-
--- the card of account k that n's commit puts into the base store: n's own or, of a charge account, the base card with n's
--- pending sum added to its amount
-unfoldable pub settledCard : Ledger → ℕ → ℕ → List ℕ
-settledCard s n k =
-    cond (isCharge k)
-    (withAmount (cardAt (s .base) (basePlace k)) (baseAmount (s .base) k +ℤ pendingSum (s .table) n k))
-    (cardAt (s .shadow) (shadowPlace n k))
-
--- the base store after the commit of topaction n, and the shadow store after that of n under p
-unfoldable pub settledBase : Ledger → ℕ → List ℕ
-settledBase s n = putCards (hasWritten (s .table) n) (settledCard s n) basePlace (s .base)
-
-unfoldable pub joinedShadow : Ledger → ℕ → ℕ → List ℕ
-joinedShadow s n p =
-    putCards (hasCard (s .table) n) (λ k. cardAt (s .shadow) (shadowPlace n k)) (shadowPlace p) (s .shadow)
-
--- the ledger after n's commit under p passes
-unfoldable pub committedUnder : Ledger → ℕ → ℕ → Ledger
-committedUnder s n p =
-    record {
-      table = commitTable (s .table) n p;
-      base = cond (eqb p 0) (settledBase s n) (s .base);
-      shadow = cond (eqb p 0) (s .shadow) (joinedShadow s n p);
-    }
 
 -- the ledger after n fails
 abbrev pub failedLedger : Ledger → ℕ → Ledger

@@ -185,11 +185,13 @@ ownAdds w n k = amountOf (ownAddsWord w n k)
 unfoldable pub withoutAdds : List ℕ → ℕ → List ℕ
 withoutAdds w n = withFields w n ownAddsField chargeAccounts (λ k. 0)
 
--- both sets and the pending sums of action n given anew: account k's read entry is reads k, its write entry writes k, and of a
--- charge account the sum's word is sums k
+-- both sets of action n given anew: account k's read entry is reads k, its write entry writes k
+unfoldable pub withBothSets : List ℕ → ℕ → (ℕ → ℕ) → (ℕ → ℕ) → List ℕ
+withBothSets w n reads writes = withFields (withFields w n readField accounts reads) n writeField accounts writes
+
+-- .. and its pending sums: the word of charge account k's is sums k
 unfoldable pub withSets : List ℕ → ℕ → (ℕ → ℕ) → (ℕ → ℕ) → (ℕ → ℕ) → List ℕ
-withSets w n reads writes sums =
-    withFields (withFields (withFields w n readField accounts reads) n writeField accounts writes) n pendingField chargeAccounts sums
+withSets w n reads writes sums = withFields (withBothSets w n reads writes) n pendingField chargeAccounts sums
 
 -- ---- RULES 1.5: the states
 

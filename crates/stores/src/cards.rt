@@ -1,10 +1,7 @@
 // Cards put into a store, and taken from one.
 ghost use mathlib.Core.Path.{_≡_};
-ghost use Rattle.rules.specs.Card.{IsCard, cardAt, withCard, ownCards};
-ghost use Rattle.rules.specs.Table.{IsAction};
-ghost use Rattle.stores.specs.Fit.{CardFits, IsShadow};
-use crate::place::cards_place;
-use rules::store::BASE_LENGTH;
+ghost use Rattle.rules.specs.Card.{IsCard, cardAt, withCard};
+ghost use Rattle.stores.specs.Fit.{CardFits};
 use rules::store::CARD_LENGTH;
 
 pub fn put_card(store: &mut [u8], at: usize, card: &[u8])
@@ -27,16 +24,24 @@ pub fn copy_card(store: &mut [u8], to: usize, source: &[u8], from: usize)
     put_card(store, to, &source[from..end]);
 }
 
-// All cards of an action, out of the shadow store: so that a commit copies them to another place of it as to the base store.
-pub fn take_cards(shadow: &[u8], n: u64) -> [u8; BASE_LENGTH]
-    requires { ⌜ IsShadow (now shadow) ⌝ }
-    requires { ⌜ IsAction n ⌝ }
-    ensures { λ r. ⌜ r ≡ ownCards (now (shadow .entry)) n ⌝ }
+// A card, out of a store.
+fn take_card(store: &[u8], at: usize) -> [u8; CARD_LENGTH]
+    requires { ⌜ CardFits (now store) at ⌝ }
+    ensures { λ r. ⌜ r ≡ cardAt (now (store .entry)) at ⌝ }
 {
-    let at = cards_place(n);
-    let mut cards = [0; BASE_LENGTH];
-    for i in 0..BASE_LENGTH {
-        cards[i] = shadow[at + i];
+    let mut card = [0; CARD_LENGTH];
+    for i in 0..CARD_LENGTH {
+        card[i] = store[at + i];
     }
-    cards
+    card
+}
+
+// A card of a store put at another place of it. It is taken out first: the store can't be lent twice.
+pub fn move_card(store: &mut [u8], to: usize, from: usize)
+    requires { ⌜ CardFits (now store) to ⌝ }
+    requires { ⌜ CardFits (now store) from ⌝ }
+    ensures { λ r. ⌜ now (store .exit) ≡ withCard (now (store .entry)) to (cardAt (now (store .entry)) from) ⌝ }
+{
+    let card = take_card(store, from);
+    put_card(store, to, &card);
 }

@@ -14,7 +14,7 @@ pub fn base_place(k: u64) -> usize
 }
 
 // The first of an action's cards, in the shadow store.
-pub fn cards_place(n: u64) -> usize
+fn cards_place(n: u64) -> usize
     requires { ⌜ IsAction n ⌝ }
     ensures { λ r. ⌜ r ≡ cardsPlace n ⌝ }
 {

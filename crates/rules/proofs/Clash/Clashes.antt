@@ -19,7 +19,8 @@ use Rattle.rules.specs.Clash.{isClash, Pair, pairsWith, clashesWith, cla
 use Rattle.rules.specs.Event.{Event, commitCode, isCommit}
 use Rattle.rules.specs.Cause.{isCommitOutside, areOutside, isSumOutside}
 use Rattle.rules.specs.Ledger.{Ledger}
-use Rattle.rules.specs.Step.{commitTime, judged, commit, step}
+use Rattle.rules.specs.Commit.{commitTime}
+use Rattle.rules.specs.Step.{judged, commit, step}
 use Rattle.rules.proofs.Laws.EventCases.{causeIn, step-commits}
 use Rattle.rules.proofs.Laws.Tests.{and-left, and-right, and-false, or-cases, or-neither, test, not-both}
 use Rattle.rules.proofs.Laws.Ranges.{filter-only, filter-every}

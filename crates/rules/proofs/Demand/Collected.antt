@@ -12,7 +12,8 @@ use Rattle.rules.specs.Table.{started, parentOf}
 use Rattle.rules.specs.Sound.{IsStarted}
 use Rattle.rules.specs.Ledger.{Ledger}
 use Rattle.rules.specs.Cause.{isCommitOutside}
-use Rattle.rules.specs.Step.{start, read, committedUnder}
+use Rattle.rules.specs.Commit.{committedUnder}
+use Rattle.rules.specs.Step.{start, read}
 use Rattle.rules.specs.Serial.Effect.{Effect}
 use Rattle.rules.specs.Serial.Block.{Block, empty, child}
 use Rattle.rules.specs.Serial.Collect.{put, Known, begun, laid, grown}
@@ -201,7 +202,6 @@ module _
     store-other e = omega (arith, j .own)
 
     laid-put : Put (abstraction s′) (c .block) (laid i c n .block) p (child (c .block p) i n (c .block n))
-    unfolding committedUnder
     laid-put =
         rw laid-blocks
         (record {
@@ -235,7 +235,6 @@ module _
     pub pass-kept :
         isCommitOutside (s .table) (s .base) n Nothing ≡ false → Proper s′ → J .rule .pass s n → J .waits .Waiting s′ →
         Kept J got ground opening s′ (laid i c n)
-    unfolding committedUnder
     pass-kept fits proper′ passed waiting′ =
         let commits = abstract-commit (kept .proper) j refl fits in
         record {

@@ -2,7 +2,7 @@
 -- but where the parent's own card hides what they saw. Assumes nothing.
 use Prim.Native.Nat.{ℕ}
 use native.Mathlib.Omega.{arith}
-use mathlib.Core.Path.{_≡_, _∙_}
+use mathlib.Core.Path.{_≡_, ap, _∙_}
 use mathlib.Core.Logic.{inl, inr, ⊎-elim}
 use mathlib.Core.Bool.{false}
 use mathlib.Core.List.{List}
@@ -10,10 +10,11 @@ use Rattle.rules.specs.declared.Found.the-variants.{Nothing}
 use Rattle.rules.specs.Table.{parentOf, hasCard}
 use Rattle.rules.specs.Ledger.{Ledger}
 use Rattle.rules.specs.Cause.{isCommitOutside}
-use Rattle.rules.specs.Step.{commitTable, committedUnder}
+use Rattle.rules.specs.Commit.{committedUnder}
 use Rattle.rules.proofs.Laws.Tests.{test}
 use Rattle.rules.proofs.Sound.TableChanges.{change-keeps-sound}
 use Rattle.rules.proofs.Laws.Permitted.{Committable}
+use Rattle.rules.proofs.Serial.Shown.{shownBase}
 use Rattle.rules.proofs.Serial.Change.{Change}
 use Rattle.rules.proofs.Serial.Events.{Commit}
 use Rattle.rules.proofs.Demand.Abstraction.{effectOf, abstraction}
@@ -21,7 +22,7 @@ use Rattle.rules.proofs.Demand.Proper.{Proper}
 use Rattle.rules.proofs.Demand.AbstractionLaws.{alive-started, live-alive, read-account, account-read, card-hides, abstract-tree}
 use Rattle.rules.proofs.Demand.Views.{was-alive, same-parent}
 use Rattle.rules.proofs.Demand.CommitTable.{entry-has-read, table-change, still-alive-other, read-joined, read-kept}
-use Rattle.rules.proofs.Demand.CommitCards.{commit-base-length, commit-shadow-length, commit-base-kept, commit-effect-kept}
+use Rattle.rules.proofs.Demand.CommitCards.{commit-base-length, commit-shadow-length, commit-base-same, commit-effect-kept}
 use Rattle.rules.proofs.Demand.CommitLaid.{commit-base-laid, commit-effect-laid}
 
 module _
@@ -29,10 +30,9 @@ module _
     (fits : isCommitOutside (s .table) (s .base) n Nothing ≡ false) where
   -- the table after the commit
   abbrev table′ : List ℕ
-  table′ = commitTable (s .table) n p
+  table′ = committedUnder s n p .table
 
   pub committed-proper : Proper (committedUnder s n p)
-  unfolding committedUnder
   committed-proper =
       record {
         sound = change-keeps-sound (s .table) table′ n (proper .sound) (table-change proper judged under);
@@ -41,7 +41,6 @@ module _
       }
 
   abstract-change : Change (abstraction s) (abstraction (committedUnder s n p)) p (effectOf s n)
-  unfolding committedUnder
   abstract-change =
       record {
         tree = abstract-tree s proper;
@@ -56,12 +55,11 @@ module _
         eff-laid = λ X k x e.
             let action = alive-started (s .table) X (x .before) in
             rw e (commit-effect-laid proper judged under fits k (λ z. omega arith));
-        base-kept = commit-base-kept proper judged under;
+        base-kept = λ k sub. ap (λ base. shownBase base k) (commit-base-same proper judged under sub);
         base-laid = commit-base-laid proper judged under fits;
       }
 
   pub abstract-commit : Commit (abstraction s) (abstraction (committedUnder s n p)) n p
-  unfolding committedUnder
   abstract-commit =
       record {
         change = abstract-change;

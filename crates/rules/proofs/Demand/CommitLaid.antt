@@ -13,13 +13,14 @@ use Rattle.rules.specs.Table.{parentOf, writeEntry, entered, hasWritten,
 use Rattle.rules.specs.Sound.{IsStarted}
 use Rattle.rules.specs.Ledger.{Ledger}
 use Rattle.rules.specs.Cause.{isCommitOutside}
-use Rattle.rules.specs.Step.{joinedPending, commitTable, settledCard, committedUnder}
+use Rattle.rules.specs.Commit.{committedUnder}
 use Rattle.rules.specs.Serial.Effect.{puts, adds, lay}
 use Rattle.rules.proofs.Laws.Amounts.{amount-read-back, amount-put}
 use Rattle.rules.proofs.Laws.Charges.{commitSum-top, commitSum-below, hasCard-below}
 use Rattle.rules.proofs.Laws.Walking.{parent-known}
 use Rattle.rules.proofs.Laws.Bytes.{cardAt-beyond}
 use Rattle.rules.proofs.Laws.Permitted.{Committable, commit-sum-fits}
+use Rattle.rules.proofs.Copies.Turns.{settledCard, addedWord}
 use Rattle.rules.proofs.Sound.Committing.{commit-write, commit-pending}
 use Rattle.rules.proofs.Serial.Values.{charge, over}
 use Rattle.rules.proofs.Serial.Shown.{shownCard, shownBase, shown-plain, shown-charge}
@@ -28,7 +29,7 @@ use Rattle.rules.proofs.Demand.Abstraction.{effectOf}
 use Rattle.rules.proofs.Demand.Proper.{Proper}
 use Rattle.rules.proofs.Demand.AbstractionLaws.{effect-card, effect-sum, effect-unwritten, effect-no-account, sum-laid, by-charge}
 use Rattle.rules.proofs.Demand.Views.{effect-kept}
-use Rattle.rules.proofs.Demand.CommitTable.{number-few, parent-few}
+use Rattle.rules.proofs.Demand.CommitTable.{number-few, parent-few, parent-other}
 use Rattle.rules.proofs.Demand.CommitCards.{by-write-set, commit-base-length, commit-base-card, commit-parent-card}
 
 module _
@@ -109,15 +110,18 @@ module _
 
     parent-entry :
         k < accountCount →
-        writeEntry (commitTable (s .table) n p) p k ≡ cond (hasWritten (s .table) n k) entered (writeEntry (s .table) p k)
+        writeEntry (committedUnder s n p .table) p k ≡ cond (hasWritten (s .table) n k) entered (writeEntry (s .table) p k)
     parent-entry =
-        commit-write (s .table) n p (judged .own .0) (proper .sound .long) (number-few proper judged under)
+        commit-write s n p (judged .own .0) (proper .sound .long) (number-few proper judged under)
         (omega arith) (parent-few proper judged under) k
 
-    pub parent-pending : IsCharge k → pendingWord (commitTable (s .table) n p) p k ≡ joinedPending (s .table) n p k
+    pub parent-pending :
+        IsCharge k →
+        pendingWord (committedUnder s n p .table) p k
+        ≡ cond (hasWritten (s .table) n k) (addedWord (s .table) n p k) (pendingWord (s .table) p k)
     parent-pending =
-        commit-pending (s .table) n p (judged .own .0) (proper .sound .long) (number-few proper judged under)
-        (omega arith) (parent-few proper judged under) k
+        commit-pending s n p (judged .own .0) (proper .sound .long) (number-few proper judged under)
+        (omega arith) (parent-few proper judged under) (λ e. parent-other proper judged under (sym e)) k
 
     pub parent-sum-fits : IsCharge k → Written → isAmount (pendingSum (s .table) p k +ℤ pendingSum (s .table) n k) ≡ true
     parent-sum-fits is written =
@@ -125,14 +129,13 @@ module _
         rw under at (rw below at (commit-sum-fits (s .table) (s .base) n fits k is written))
 
     parent-card-laid : k < firstCharge → Written → LaidOnParent
-    unfolding committedUnder lay
+    unfolding lay
     parent-card-laid below written =
         rw (effect-card s n k below written)
         (effect-card (committedUnder s n p) p k below (rw (parent-entry (omega arith), written))
         ∙ ap puts (parent-card below ∙ rw written))
 
     parent-sum-laid : IsCharge k → Written → LaidOnParent
-    unfolding committedUnder
     parent-sum-laid is written =
         let begun : IsStarted (s .table) p = (omega arith, rw under at (parent-known (proper .sound) n (judged .own))) in
         rw (effect-sum s n k is written)
@@ -141,7 +144,7 @@ module _
         ∙ sym (sum-laid s proper p k begun is (pendingSum (s .table) n k)))
 
     parent-left : k < accountCount → Unwritten → LaidOnParent
-    unfolding committedUnder lay
+    unfolding lay
     parent-left account unwritten =
         rw (effect-unwritten s n k account unwritten)
         (effect-kept s (committedUnder s n p) p k

@@ -12,7 +12,7 @@ use Rattle.rules.specs.Card.{accountCount, accounts}
 use Rattle.rules.specs.Table.{width, word, counter, parentOf, endTime, readFields, readEntry, writeField, hasWritten, hasWrites, hasCard, isCommitted, isRecordOf}
 use Rattle.rules.specs.Sound.{IsStarted}
 use Rattle.rules.specs.Ledger.{Ledger}
-use Rattle.rules.specs.Step.{commitTime, commitTable, committedUnder}
+use Rattle.rules.specs.Commit.{commitTime, committedUnder}
 use Rattle.rules.specs.Serial.Effect.{nothing}
 use Rattle.rules.proofs.Laws.Tests.{and-both, not-both, false-of-not-true}
 use Rattle.rules.proofs.Laws.Ranges.{any-at}
@@ -36,14 +36,14 @@ module _ {s : Ledger} (proper : Proper s) {n p : ℕ} (judged : Committable (s .
   after = committedUnder s n p
 
   abbrev table′ : List ℕ
-  table′ = commitTable (s .table) n p
+  table′ = committedUnder s n p .table
 
   -- ---- a read that was stale
 
   -- a committed action isn't the one that commits, nor its parent, which is the store or live
   pub committed-row-kept : (m : ℕ) → IsStarted (s .table) m → isCommitted (s .table) m ≡ true → RowKept (s .table) table′ m
   committed-row-kept m begun done g h =
-      commit-keeps-row (s .table) n p (judged .own .0) m g (omega arith) (begun .0) not-committing (inl not-parent)
+      commit-keeps-row s n p (judged .own .0) m g (omega arith) (begun .0) not-committing (inl not-parent)
     where
       not-committing : m ≢ n
       not-committing e = live-uncommitted (s .table) n (judged .alive) (rw e at done)
@@ -61,7 +61,6 @@ module _ {s : Ledger} (proper : Proper s) {n p : ℕ} (judged : Committable (s .
   stale-kept :
       {X Y Q k : ℕ} → k < accountCount → NoLater (readEntry table′ Y k) (readEntry (s .table) X k) →
       Stale s X Q k → Stale after Y Q k
-  unfolding committedUnder
   stale-kept account no-later =
       stale-stays s after account records-kept (omega arith)
 
@@ -74,21 +73,20 @@ module _ {s : Ledger} (proper : Proper s) {n p : ℕ} (judged : Committable (s .
 
     own-set-kept : (g : ℕ) → readFields ≤ g → g < width → word table′ n g ≡ word (s .table) n g
     own-set-kept =
-        commit-keeps-sets (s .table) n p (judged .own .0) (λ e. parent-other proper judged under (sym e))
+        commit-keeps-sets s n p (judged .own .0) (λ e. parent-other proper judged under (sym e))
 
     now-record : isRecordOf table′ p n ≡ true
     unfolding isRecordOf
     now-record =
-        and-both (eq-eqb _ _ (commit-parent (s .table) n p (judged .own .0) n ∙ under))
+        and-both (eq-eqb _ _ (commit-parent s n p (judged .own .0) n ∙ under))
         (and-both (now-committed proper judged under)
         (writes-agree (s .table) table′ n (λ j h. own-set-kept (writeField j) (omega arith) (omega arith)) ∙ has-writes))
 
     now-ended : endTime table′ n ≡ counter (s .table) + 1
     unfolding commitTime
-    now-ended = commit-end (s .table) n p (judged .own .0) (proper .sound .long) (number-few proper judged under) ∙ rw has-writes
+    now-ended = commit-end s n p (judged .own .0) (proper .sound .long) (number-few proper judged under) ∙ rw has-writes
 
     now-stale : (X : ℕ) → Stays (abstraction s) (abstraction after) X → HasRead (abstraction s) X k → Stale after X p k
-    unfolding committedUnder
     now-stale X x has =
         let begun = alive-started (s .table) X (x .before) in
         let in-time = proper .sound .reads X k begun (alive-live (s .table) X (x .before)) account (read-entered (s .table) X k has) in
@@ -111,7 +109,6 @@ module _ {s : Ledger} (proper : Proper s) {n p : ℕ} (judged : Committable (s .
   -- ---- what the proof asks of a commit's stale reads
 
   pub stale-at-commit : AtCommit (abstraction s) (abstraction (committedUnder s n p)) (Stale s) (Stale (committedUnder s n p)) n p
-  unfolding committedUnder
   stale-at-commit =
       record {
         old = λ X Q k x has seen.

@@ -12,7 +12,7 @@ use borrow.Author.Tests.{eqb-true, eqb-false, eq-eqb, not-true}
 use Rattle.rules.specs.Card.{accountCount}
 use Rattle.rules.specs.Table.{mostActions, parentOf, readField, readEntry, hasRead, hasCard, isCommitted}
 use Rattle.rules.specs.Ledger.{Ledger}
-use Rattle.rules.specs.Step.{passesRead, earlierRead, joinedRead, commitTable}
+use Rattle.rules.specs.Commit.{passesRead, earlierRead, joinedRead, committedUnder}
 use Rattle.rules.proofs.Laws.Tests.{and-left, and-both, not-both, not-holds, nonzero, cond-holds}
 use Rattle.rules.proofs.Laws.Permitted.{Committable, not-own-parent}
 use Rattle.rules.proofs.Laws.Walking.{parent-known}
@@ -49,8 +49,8 @@ module _ (child parent : ℕ) (one : 1 ≤ child) where
 -- ---- action n commits under p
 
 module _ {s : Ledger} (proper : Proper s) {n p : ℕ} (judged : Committable (s .table) n) (under : parentOf (s .table) n ≡ p) where
-  pub table-change : TableChange (s .table) (commitTable (s .table) n p) n
-  table-change = rw under at (commit-change (s .table) (proper .sound) n judged)
+  pub table-change : TableChange (s .table) (committedUnder s n p .table) n
+  table-change = rw under at (commit-change s (proper .sound) n judged)
 
   pub number-few : n ≤ mostActions
   number-few = omega (arith, judged .own, proper .sound .few)
@@ -61,20 +61,20 @@ module _ {s : Ledger} (proper : Proper s) {n p : ℕ} (judged : Committable (s .
   pub parent-other : p ≢ n
   parent-other = rw under at (not-own-parent judged)
 
-  pub now-committed : isCommitted (commitTable (s .table) n p) n ≡ true
-  now-committed = eq-eqb _ _ (commit-state (s .table) n p (judged .own .0) (proper .sound .long) number-few)
+  pub now-committed : isCommitted (committedUnder s n p .table) n ≡ true
+  now-committed = eq-eqb _ _ (commit-state s n p (judged .own .0) (proper .sound .long) number-few)
 
-  pub still-alive-other : (X : ℕ) → isAlive (commitTable (s .table) n p) X ≡ true → X ≢ n
+  pub still-alive-other : (X : ℕ) → isAlive (committedUnder s n p .table) X ≡ true → X ≢ n
   still-alive-other X l e = live-uncommitted _ n (rw e at (alive-live _ X l)) now-committed
 
   module _ (k : ℕ) where
-    parent-entry : 1 ≤ p → k < accountCount → readEntry (commitTable (s .table) n p) p k ≡ joinedRead (s .table) n p k
-    parent-entry action = commit-read (s .table) n p (judged .own .0) (proper .sound .long) number-few action parent-few k
+    parent-entry : 1 ≤ p → k < accountCount → readEntry (committedUnder s n p .table) p k ≡ joinedRead (s .table) n p k
+    parent-entry action = commit-read s n p (judged .own .0) (proper .sound .long) number-few action parent-few k
 
     -- a parent that is an action, and had no card for the account, has the reads of the one that commits, at times no later
     pub read-joined :
-        isAlive (commitTable (s .table) n p) p ≡ true → hasReadAccount (s .table) n k ≡ true → hasCard (s .table) p k ≡ false →
-        NoLater (readEntry (commitTable (s .table) n p) p k) (readEntry (s .table) n k)
+        isAlive (committedUnder s n p .table) p ≡ true → hasReadAccount (s .table) n k ≡ true → hasCard (s .table) p k ≡ false →
+        NoLater (readEntry (committedUnder s n p .table) p k) (readEntry (s .table) n k)
     read-joined l′ has bare =
         let entered = read-entered (s .table) n k has in
         rw (parent-entry (alive-started _ p l′ .0) (read-account (s .table) n k has))
@@ -85,7 +85,7 @@ module _ {s : Ledger} (proper : Proper s) {n p : ℕ} (judged : Committable (s .
     -- the parent has the reads that it had, at times no later
     parent-kept :
         1 ≤ p → k < accountCount → 1 ≤ readEntry (s .table) p k →
-        NoLater (readEntry (commitTable (s .table) n p) p k) (readEntry (s .table) p k)
+        NoLater (readEntry (committedUnder s n p .table) p k) (readEntry (s .table) p k)
     parent-kept action account one =
         rw (parent-entry action account)
         (cond-holds (λ e. NoLater e (readEntry (s .table) p k)) (passesRead (s .table) n p k)
@@ -96,8 +96,8 @@ module _ {s : Ledger} (proper : Proper s) {n p : ℕ} (judged : Committable (s .
 
     -- so has whoever is still live
     pub read-kept :
-        (X : ℕ) → isAlive (s .table) X ≡ true → isAlive (commitTable (s .table) n p) X ≡ true →
-        hasReadAccount (s .table) X k ≡ true → NoLater (readEntry (commitTable (s .table) n p) X k) (readEntry (s .table) X k)
+        (X : ℕ) → isAlive (s .table) X ≡ true → isAlive (committedUnder s n p .table) X ≡ true →
+        hasReadAccount (s .table) X k ≡ true → NoLater (readEntry (committedUnder s n p .table) X k) (readEntry (s .table) X k)
     read-kept X l l′ has = cases (ℕ-discrete X p)
       where
         action : 1 ≤ X
@@ -109,8 +109,8 @@ module _ {s : Ledger} (proper : Proper s) {n p : ℕ} (judged : Committable (s .
         account : k < accountCount
         account = read-account (s .table) X k has
 
-        cases : Dec (X ≡ p) → NoLater (readEntry (commitTable (s .table) n p) X k) (readEntry (s .table) X k)
+        cases : Dec (X ≡ p) → NoLater (readEntry (committedUnder s n p .table) X k) (readEntry (s .table) X k)
         cases (yes e) = rw e (parent-kept (rw e at action) account (rw e at one))
         cases (no ne) =
-            rw (commit-keeps-row (s .table) n p (judged .own .0) X (readField k) (omega (arith, account)) action (still-alive-other X l′) (inl ne))
+            rw (commit-keeps-row s n p (judged .own .0) X (readField k) (omega (arith, account)) action (still-alive-other X l′) (inl ne))
             (one, le-refl (readEntry (s .table) X k))

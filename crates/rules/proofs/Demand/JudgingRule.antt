@@ -14,7 +14,8 @@ use Rattle.rules.specs.Ledger.{Ledger, withTable}
 use Rattle.rules.specs.Walk.{isAbortedBy}
 use Rattle.rules.specs.Queue.{theQueue, Entry, isQueued, withQueue}
 use Rattle.rules.specs.Sound.{SoundQueue}
-use Rattle.rules.specs.Step.{start, read, write, add, committedUnder, abortTable}
+use Rattle.rules.specs.Commit.{committedUnder}
+use Rattle.rules.specs.Step.{start, read, write, add, abortTable}
 use Rattle.rules.proofs.Laws.Permitted.{Startable, Touchable, Committable}
 use Rattle.rules.proofs.Serial.Rule.{Rule}
 use Rattle.rules.proofs.Demand.Abstraction.{abstraction}

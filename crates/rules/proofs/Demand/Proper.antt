@@ -33,7 +33,7 @@ new-proper base shadow baseFits shadowFits = record { sound = new-sound; baseFit
 proper-of : {s : Ledger} → Sound (s .table) → LedgerFits s → Proper s
 proper-of sound fits = record { sound = sound; baseFits = fits .baseFits; shadowFits = fits .shadowFits }
 
-stores-fit : {s : Ledger} → Proper s → LedgerFits s
+pub stores-fit : {s : Ledger} → Proper s → LedgerFits s
 stores-fit proper = record { baseFits = proper .baseFits; shadowFits = proper .shadowFits }
 
 -- a change of the table alone

@@ -16,7 +16,7 @@ use Rattle.rules.specs.Clash.{firstClash}
 use Rattle.rules.specs.Cause.{isReadOutside, isCommitOutside}
 use Rattle.rules.specs.Ledger.{Ledger}
 use Rattle.rules.specs.Queue.{theQueue, queueLength, isQueuedFailed}
-use Rattle.rules.specs.Step.{Outcome, start, read, write, add, committedUnder, judged, leave, enter, revealed, judgeLeft, judgeAnswer, judge, abortLeft, abort, step, leaversAt}
+use Rattle.rules.specs.Step.{Outcome, start, read, write, add, judged, leave, enter, revealed, judgeLeft, judgeAnswer, judge, abortLeft, abort, step, leaversAt}
 use Rattle.rules.specs.Run.{run}
 use Rattle.rules.specs.Serial.Told.{itLetLeave, told, toldAll}
 use Rattle.rules.specs.Serial.Collect.{Known, commitsAt, laidAll, stepped, collectOne, collectFrom}
@@ -95,10 +95,10 @@ module _
   judges :
       Committable (s .table) (e .number) → queueLength (s .table) theQueue ≡ 0 → (f : Found) → firstClash (s .table) (e .number) ≡ f →
       isCommitOutside (s .table) (s .base) (e .number) f ≡ false → KeptAfter (judged s (e .number) f) []
-  unfolding KeptAfter judged committedUnder collectOne commitsAt stepped laidAll
+  unfolding KeptAfter judged collectOne commitsAt stepped laidAll
   judges j empty Nothing clear fits proper′ seen below =
       pass-kept J got ground opening kept i (e .number) j fits proper′ (J .passes s (kept .proper) (e .number) j clear)
-      (J .waits .none-waits _ (commit-line (s .table) (e .number) _ (j .own .0) .sameLength ∙ empty))
+      (J .waits .none-waits _ (commit-line s (e .number) _ (j .own .0) .sameLength ∙ empty))
   judges j empty (At t k) clash fits proper′ seen below =
       drop-kept J got ground opening kept i _ proper′
       (fail-drops s (kept .proper) (e .number) j) (J .at-failed-commit s (kept .proper) (e .number) j)

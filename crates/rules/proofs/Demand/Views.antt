@@ -16,7 +16,7 @@ use Rattle.rules.proofs.Serial.Events.{Still, lays-nothing}
 use Rattle.rules.proofs.Serial.Stale.{Old}
 use Rattle.rules.proofs.Serial.Settling.{is-charge, below-charges}
 use Rattle.rules.proofs.Laws.Cards.{Fits}
-use Rattle.rules.proofs.Stores.Copies.{shadow-line, line-fits}
+use Rattle.rules.proofs.Copies.Lines.{shadow-line, line-fits}
 use Rattle.rules.proofs.Demand.Abstraction.{isAlive, writtenEffect, effectOf, hasReadAccount, abstraction, Stale}
 use Rattle.rules.proofs.Demand.Proper.{Proper}
 use Rattle.rules.proofs.Demand.AbstractionLaws.{alive-started, alive-live, live-alive, read-account, read-entered, account-read, effect-account, effect-no-account, by-account, by-charge, abstract-tree}

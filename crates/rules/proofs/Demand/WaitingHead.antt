@@ -15,7 +15,8 @@ use Rattle.rules.specs.Table.{parentField, parentOf, stateField, readFie
 use Rattle.rules.specs.Queue.{theQueue, queueLength, Entry, hasFailed, entryAt, isReady, isHeadReady, queue, isQueued}
 use Rattle.rules.specs.Sound.{IsStarted}
 use Rattle.rules.specs.Ledger.{Ledger}
-use Rattle.rules.specs.Step.{commitTable, committedUnder, headIn, headOut}
+use Rattle.rules.specs.Commit.{committedUnder}
+use Rattle.rules.specs.Step.{headIn, headOut}
 use Rattle.rules.proofs.Laws.Tests.{and-left, and-right}
 use Rattle.rules.proofs.Laws.Queue.{queue-kept}
 use Rattle.rules.proofs.Laws.Each.{each-both}
@@ -44,10 +45,10 @@ module _ {s : Ledger} (proper : Proper s) {n : ℕ} (free : Committable (s .tabl
   after = committedUnder s n p
 
   abbrev table′ : List ℕ
-  table′ = commitTable (s .table) n p
+  table′ = committedUnder s n p .table
 
   waiting-row : (X : ℕ) → isQueued (s .table) theQueue X ≡ true → RowKept (s .table) table′ X
-  waiting-row = commit-keeps-waiting (proper .sound) free
+  waiting-row = commit-keeps-waiting s (proper .sound) free
 
   module _ (e : Entry) (queued : isQueued (s .table) theQueue (e .number) ≡ true) where
     abbrev X : ℕ
@@ -58,33 +59,30 @@ module _ {s : Ledger} (proper : Proper s) {n : ℕ} (free : Committable (s .tabl
 
     -- what makes a read of X stale afterwards did so before, where it isn't n
     stale-by-other : {k : ℕ} → k < accountCount → (st : Stale after X Q k) → st .holder ≢ n → Stale s X Q k
-    unfolding committedUnder
     stale-by-other {k} account st other =
         let m = st .holder in
         let begun : IsStarted (s .table) m = rw (table-change proper free refl .sameStarted) at (st .begun) in
         let done : isCommitted (s .table) m ≡ true =
-        rw (commit-keeps-row (s .table) n p (free .own .0) m stateField (omega arith) (begun .0) other (inr (omega arith)))
+        rw (commit-keeps-row s n p (free .own .0) m stateField (omega arith) (begun .0) other (inr (omega arith)))
         at (record-committed table′ Q m (st .isRecord)) in
         stale-by-kept-row after s account st begun (λ g inside. sym (committed-row-kept proper free refl m begun done g inside))
         (le-of-eq (ap (λ entry. entry - 1) (sym (waiting-row X queued (readField k) (omega arith)))))
 
     -- where it is n, X is a sibling of n and has read what n has written
     sibling-of : {k : ℕ} → (st : Stale after X Q k) → st .holder ≡ n → Q ≡ parentOf (s .table) n
-    unfolding committedUnder isRecordOf
+    unfolding isRecordOf
     sibling-of st same =
-        sym (eqb-true _ _ (and-left (isChildOf table′ Q n) _ (rw same at (st .isRecord)))) ∙ commit-parent (s .table) n p (free .own .0) n
+        sym (eqb-true _ _ (and-left (isChildOf table′ Q n) _ (rw same at (st .isRecord)))) ∙ commit-parent s n p (free .own .0) n
 
     written-by : {k : ℕ} → k < accountCount → (st : Stale after X Q k) → st .holder ≡ n → hasWritten (s .table) n k ≡ true
-    unfolding committedUnder
     written-by {k} account st same =
-        rw (commit-keeps-sets (s .table) n p (free .own .0) (λ z. parent-other proper free refl (sym z)) (writeField k) (omega arith) (omega arith))
+        rw (commit-keeps-sets s n p (free .own .0) (λ z. parent-other proper free refl (sym z)) (writeField k) (omega arith) (omega arith))
         at (rw same at (st .written))
 
     pub commit-alone :
         (hasFailed e ≡ false → Q ≡ parentOf (s .table) n → (k : ℕ) → k < accountCount → hasWritten (s .table) n k ≡ true →
         hasRead (s .table) X k ≡ true → ⊥) →
         LeftAlone s (committedUnder s n (parentOf (s .table) n)) e
-    unfolding committedUnder
     commit-alone apart =
         let row = waiting-row X queued in
         record {
@@ -137,12 +135,12 @@ module _ (s : Ledger) (proper : Proper s) (ready : isHeadReady (s .table) theQue
   head-passes = let here = still-waits .0 in here .passes (here .earned head-ready)
 
   pub waits-head-committed : Proper (headOut theQueue s) → Waiting (committedUnder (headOut theQueue s) (headIn theQueue s) (parentOf (headOut theQueue s .table) (headIn theQueue s)))
-  unfolding Waits committedUnder isQueued entryAt
+  unfolding Waits isQueued entryAt
   waits-head-committed proper′ =
       let free = head-committable s (proper .sound) ready in
       let u = headOut theQueue s in
       let v = committedUnder u (headIn theQueue s) (parentOf (u .table) (headIn theQueue s)) in
-      rw (queue-kept (u .table) (v .table) theQueue (omega arith) (commit-line (u .table) (headIn theQueue s) _ (free .own .0)), left-behind)
+      rw (queue-kept (u .table) (v .table) theQueue (omega arith) (commit-line u (headIn theQueue s) _ (free .own .0)), left-behind)
       (waits-alone u v behind
       (each-both (Behind u head) (λ e. isQueued (u .table) theQueue (e .number) ≡ true) (LeftAlone u v)
       (λ e apart queued. commit-alone proper′ free e queued apart) behind (still-waits .1)

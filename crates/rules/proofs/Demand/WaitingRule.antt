@@ -11,7 +11,8 @@ use Rattle.rules.specs.Table.{parentOf, pendingSum}
 use Rattle.rules.specs.Walk.{isAbortedBy}
 use Rattle.rules.specs.Queue.{theQueue, queueLength, isQueued, isQueuedFailed, isHeadReady, withReady}
 use Rattle.rules.specs.Ledger.{Ledger, withTable}
-use Rattle.rules.specs.Step.{start, read, write, add, committedUnder, failedLedger, takenOut, enter, abortTable, headIn, headOut}
+use Rattle.rules.specs.Commit.{committedUnder}
+use Rattle.rules.specs.Step.{start, read, write, add, failedLedger, takenOut, enter, abortTable, headIn, headOut}
 use Rattle.rules.proofs.Laws.Permitted.{Startable, Touchable, Committable}
 use Rattle.rules.proofs.Serial.Rule.{Rule}
 use Rattle.rules.proofs.Demand.Abstraction.{abstraction}

@@ -19,7 +19,8 @@ use Rattle.rules.specs.Event.{Event}
 use Rattle.rules.specs.Cause.{isCommitOutside}
 use Rattle.rules.specs.Ledger.{Ledger}
 use Rattle.rules.specs.Queue.{theQueue, isHeadReady, isQueuedFailed, withTail, withReady, withoutBelow}
-use Rattle.rules.specs.Step.{commitTable, committedUnder, Outcome, start, read, write, add, judged, takenOut, finished, committing, Left, leave, enter, revealed, judgeLeft, judgeAnswer, judge, dropped, abortLeft, abort, step, leaversAt, headIn, headOut, isHeadOutside}
+use Rattle.rules.specs.Commit.{committedUnder}
+use Rattle.rules.specs.Step.{Outcome, start, read, write, add, judged, takenOut, finished, committing, Left, leave, enter, revealed, judgeLeft, judgeAnswer, judge, dropped, abortLeft, abort, step, leaversAt, headIn, headOut, isHeadOutside}
 use Rattle.rules.specs.Run.{run}
 use Rattle.rules.specs.Serial.Told.{told, toldAll}
 use Rattle.rules.specs.Serial.Demand.{newOver, toldOf}
@@ -55,15 +56,14 @@ module _
   abbrev p : ℕ
   p = parentOf (s .table) n
 
-  others-stay : (X : ℕ) → X ≢ n → isAlive (s .table) X ≡ true → isAlive (commitTable (s .table) n p) X ≡ true
+  others-stay : (X : ℕ) → X ≢ n → isAlive (s .table) X ≡ true → isAlive (committedUnder s n p .table) X ≡ true
   others-stay X other l =
       let begun = alive-started (s .table) X l in
-      live-alive (commitTable (s .table) n p) X (rw (table-change proper j refl .sameStarted) begun)
-      (rw (commit-keeps-row (s .table) n p (j .own .0) X stateField (omega arith) (begun .0) other (inr (omega arith)))
+      live-alive (committedUnder s n p .table) X (rw (table-change proper j refl .sameStarted) begun)
+      (rw (commit-keeps-row s n p (j .own .0) X stateField (omega arith) (begun .0) other (inr (omega arith)))
       (alive-live (s .table) X l))
 
   commit-ends : Ends (abstraction s) (abstraction (committedUnder s n p)) n
-  unfolding committedUnder
   commit-ends =
       let c = abstract-commit proper j refl fits in
       let l = c .committer-live in

@@ -15,7 +15,7 @@ use Rattle.rules.proofs.Laws.Cards.{Fits, withCard-length, cardAt-same,
 use Rattle.rules.proofs.Laws.Permitted.{Touchable}
 use Rattle.rules.proofs.Sound.TableChanges.{TableChange, change-keeps-sound}
 use Rattle.rules.proofs.Sound.Writing.{write-keeps-field, write-keeps-row, write-entry, write-change}
-use Rattle.rules.proofs.Stores.Copies.{shadow-apart}
+use Rattle.rules.proofs.Copies.Lines.{shadow-apart}
 use Rattle.rules.proofs.Demand.Abstraction.{effectOf}
 use Rattle.rules.proofs.Demand.Proper.{Proper}
 use Rattle.rules.proofs.Demand.AbstractionLaws.{effect-card}

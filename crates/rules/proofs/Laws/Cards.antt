@@ -1,6 +1,7 @@
 -- A card put into a store: its length, what stands at its place then and at any other. Assumes nothing.
 use Prim.Native.Nat.{ℕ, _+_, _-_, _≤_, _<_}
 use native.Mathlib.Omega.{arith}
+use native.Mathlib.Decide.{decLt}
 use mathlib.Core.Path.{_≡_, sym, ap, _∙_}
 use mathlib.Core.Logic.{_⊎_, inl, inr}
 use mathlib.Core.List.{List, _++_}
@@ -29,7 +30,7 @@ unfolding cardAt
 cardAt-byte store at i h = getD-take cardLength (drop at store) i 0 h ∙ getD-drop at store i 0
 
 -- the card at a place is known by its bytes
-pub cardAt-by-bytes :
+cardAt-by-bytes :
     (store : List ℕ) (at : ℕ) (card : List ℕ) → Fits store at → length card ≡ cardLength →
     ((i : ℕ) → i < cardLength → getD store (at + i) 0 ≡ getD card i 0) → cardAt store at ≡ card
 cardAt-by-bytes store at card fits whole same =
@@ -81,3 +82,78 @@ module _ (store : List ℕ) (at : ℕ) (card : List ℕ) (fits : Fits store at) 
       outside : Apart at other → (i : ℕ) → i < cardLength → Outside at (other + i)
       outside (inl before) i below = inl (omega arith)
       outside (inr behind) i below = inr (omega arith)
+
+  -- a byte that the card leaves as it was, or doesn't reach
+  pub withCard-leaves :
+      (i : ℕ) → ((j : ℕ) → j < cardLength → at + j ≡ i → getD card j 0 ≡ getD store i 0) →
+      getD (withCard store at card) i 0 ≡ getD store i 0
+  withCard-leaves i leaves = by-place (decLt i at) (decLt i (at + cardLength))
+    where
+      by-place : Dec (i < at) → Dec (i < at + cardLength) → getD (withCard store at card) i 0 ≡ getD store i 0
+      by-place (yes before) _ = withCard-outside i (inl before)
+      by-place (no _) (no behind) = withCard-outside i (inr (omega arith))
+      by-place (no above) (yes below) =
+          let here : at + (i - at) ≡ i = omega arith in
+          rw here at (withCard-inside (i - at) (omega arith) ∙ leaves (i - at) (omega arith) here)
+
+  inside-byte : (i : ℕ) → at ≤ i → i < at + cardLength → getD (withCard store at card) i 0 ≡ getD card (i - at) 0
+  inside-byte i above below =
+      let here : at + (i - at) ≡ i = omega arith in
+      rw here at (withCard-inside (i - at) (omega arith))
+
+-- a byte is one of the card's at a place, or outside it
+one-of-card : (at i : ℕ) → ((at ≤ i) × (i < at + cardLength)) ⊎ Outside at i
+one-of-card at i = by-place (decLt i at) (decLt i (at + cardLength))
+  where
+    by-place : Dec (i < at) → Dec (i < at + cardLength) → ((at ≤ i) × (i < at + cardLength)) ⊎ Outside at i
+    by-place (yes before) _ = inr (inl before)
+    by-place (no above) (yes below) = inl (omega arith)
+    by-place (no above) (no behind) = inr (inr (omega arith))
+
+-- two cards that share no byte may be put in either order
+pub withCard-swap :
+    (store : List ℕ) (at other : ℕ) (card second : List ℕ) → Fits store at → Fits store other → length card ≡ cardLength →
+    length second ≡ cardLength → Apart at other →
+    withCard (withCard store at card) other second ≡ withCard (withCard store other second) at card
+withCard-swap store at other card second fits-at fits-other whole whole-second apart =
+    ext-getD 0 _ _ (both-put ∙ sym both-put′)
+    (λ i _. by-place i (one-of-card at i) (one-of-card other i))
+  where
+    first-length : length (withCard store at card) ≡ length store
+    first-length = withCard-length store at card fits-at whole
+
+    second-length : length (withCard store other second) ≡ length store
+    second-length = withCard-length store other second fits-other whole-second
+
+    fits-other′ : Fits (withCard store at card) other
+    fits-other′ = rw first-length fits-other
+
+    fits-at′ : Fits (withCard store other second) at
+    fits-at′ = rw second-length fits-at
+
+    both-put : length (withCard (withCard store at card) other second) ≡ length store
+    both-put = withCard-length (withCard store at card) other second fits-other′ whole-second ∙ first-length
+
+    both-put′ : length (withCard (withCard store other second) at card) ≡ length store
+    both-put′ = withCard-length (withCard store other second) at card fits-at′ whole ∙ second-length
+
+    outside : (i : ℕ) → at ≤ i → i < at + cardLength → Apart at other → Outside other i
+    outside i above below (inl before) = inr (omega arith)
+    outside i above below (inr behind) = inl (omega arith)
+
+    by-place :
+        (i : ℕ) → ((at ≤ i) × (i < at + cardLength)) ⊎ Outside at i → ((other ≤ i) × (i < other + cardLength)) ⊎ Outside other i →
+        getD (withCard (withCard store at card) other second) i 0 ≡ getD (withCard (withCard store other second) at card) i 0
+    by-place i (inl (above, below)) _ =
+        withCard-outside (withCard store at card) other second fits-other′ whole-second i (outside i above below apart)
+        ∙ inside-byte store at card fits-at whole i above below
+        ∙ sym (inside-byte (withCard store other second) at card fits-at′ whole i above below)
+    by-place i (inr out) (inl (above, below)) =
+        inside-byte (withCard store at card) other second fits-other′ whole-second i above below
+        ∙ sym (withCard-outside (withCard store other second) at card fits-at′ whole i out
+        ∙ inside-byte store other second fits-other whole-second i above below)
+    by-place i (inr out) (inr out-other) =
+        withCard-outside (withCard store at card) other second fits-other′ whole-second i out-other
+        ∙ withCard-outside store at card fits-at whole i out
+        ∙ sym (withCard-outside (withCard store other second) at card fits-at′ whole i out
+        ∙ withCard-outside store other second fits-other whole-second i out-other)

@@ -9,7 +9,7 @@ use mathlib.Core.Logic.{_⊎_, inl, inr, ⊎-elim, _≢_}
 use mathlib.Core.Bool.{Bool, true, false, cond, _||_, false≢true}
 use mathlib.Core.List.{List, [], _∷_, map, List·Memᴰ, List·Memᴰ·head, List·Memᴰ·tail, List·Memᴰ·not-nil, List·Memᴰ·cases-cons}
 use lib.ListN.{length}
-use Rattle.rules.specs.Range.{upFrom, any, all, count, filter, fold}
+use Rattle.rules.specs.Range.{upFrom, downTo, any, all, count, filter, fold}
 use Rattle.rules.proofs.Laws.Tests.{and-left, and-right, and-both, or-inl, or-inr, or-neither, cond-holds}
 
 -- x is one of the n numbers from a on
@@ -264,6 +264,44 @@ pub fold-puts :
     (s : A) → P s → cell (fold f (upFrom a n) s) ≡ v
 fold-puts P cell v f a n k keeps puts other =
     fold-changes P cell (λ _. v) f a n k keeps puts (λ x h ne s _. other x h ne s)
+
+-- of a falling run the lowest number comes last
+pub fold-down-last :
+    {A : Type 0} (f : ℕ → A → A) (a n : ℕ) (s : A) → fold f (downTo a (suc n)) s ≡ f a (fold f (downTo (suc a) n) s)
+unfolding fold downTo
+fold-down-last f a zero s = rw (add-zero a)
+fold-down-last f a (suc n) s =
+    let same : a + suc n ≡ suc a + n = omega (arith, add-suc a n, suc-add a n) in
+    fold-down-last f a n (f (a + suc n) s) ∙ ap (λ x. f a (fold f (downTo (suc a) n) (f x s))) same
+
+-- a change that disturbs none of the others may come after them or before
+fold-late :
+    {A : Type 0} (P : A → Type 0) (f : ℕ → A → A) (k a n : ℕ) →
+    ((x : ℕ) → Within a n x → (s : A) → P s → P (f x s)) →
+    ((x : ℕ) → Within a n x → (s : A) → P s → f k (f x s) ≡ f x (f k s)) →
+    (s : A) → P s → f k (fold f (upFrom a n) s) ≡ fold f (upFrom a n) (f k s)
+unfolding fold upFrom
+fold-late P f k a zero keeps swap s p = refl
+fold-late P f k a (suc n) keeps swap s p =
+    fold-late P f k (suc a) n (λ x r. keeps x (rest-within a n x r)) (λ x r. swap x (rest-within a n x r))
+    (f a s) (keeps a (first-within a n) s p)
+    ∙ ap (fold f (upFrom (suc a) n)) (swap a (first-within a n) s p)
+
+-- changes that don't disturb each other may be made rising or falling; P is what they need and keep
+pub fold-either-way :
+    {A : Type 0} (P : A → Type 0) (f : ℕ → A → A) (a n : ℕ) →
+    ((x : ℕ) → Within a n x → (s : A) → P s → P (f x s)) →
+    ((x y : ℕ) → Within a n x → Within a n y → x ≢ y → (s : A) → P s → f x (f y s) ≡ f y (f x s)) →
+    (s : A) → P s → fold f (downTo a n) s ≡ fold f (upFrom a n) s
+unfolding fold downTo upFrom
+fold-either-way P f a zero keeps swap s p = refl
+fold-either-way P f a (suc n) keeps swap s p =
+    fold-down-last f a n s
+    ∙ ap (f a)
+    (fold-either-way P f (suc a) n (λ x r. keeps x (rest-within a n x r))
+    (λ x y r q. swap x y (rest-within a n x r) (rest-within a n y q)) s p)
+    ∙ fold-late P f a (suc a) n (λ x r. keeps x (rest-within a n x r))
+    (λ x r. swap a x (first-within a n) (rest-within a n x r) (λ z. omega (arith, r .0))) s p
 
 -- ---- a run taken from its front, as a loop does: what is left from a on, below an end
 

@@ -6,7 +6,7 @@ use mathlib.Core.Path.{_≡_}
 use mathlib.Core.Logic.{_≢_}
 use mathlib.Core.List.{List}
 use lib.ListN.{length, length-set}
-use lib.Seq.{getD-set-same, getD-set-other}
+use lib.Seq.{getD-set-same, getD-set-other, set-comm}
 use Rattle.rules.specs.Table.{width, tableLength, word, withWord, mostActions}
 
 pub withWord-length : (w : List ℕ) (n f v : ℕ) → length (withWord w n f v) ≡ length w
@@ -34,3 +34,9 @@ word-off-field w n m f g v hf hg ne = go (ℕ-discrete m n)
     go : Dec (m ≡ n) → word (withWord w n f v) m g ≡ word w m g
     go (yes e) = rw e (word-other-field w n f g v ne)
     go (no apart) = word-other-row w n m f g v hf hg apart
+
+-- two fields of a row may be given in either order
+pub withWord-swap :
+    (w : List ℕ) (n f g v u : ℕ) → f ≢ g → withWord (withWord w n f v) n g u ≡ withWord (withWord w n g u) n f v
+unfolding withWord
+withWord-swap w n f g v u ne = set-comm w (width * n + f) (width * n + g) v u (λ e. ne (omega arith))

@@ -19,7 +19,7 @@ use Rattle.rules.proofs.Laws.Sets.{account-within}
 use Rattle.rules.proofs.Laws.Cards.{cardAt-length, withCard-length, cardAt-same, cardAt-apart}
 use Rattle.rules.proofs.Laws.Bytes.{cardAt-beyond}
 use Rattle.rules.proofs.Laws.Amounts.{withAmount-length, amount-put}
-use Rattle.rules.proofs.Stores.Copies.{base-line, line-fits, line-apart}
+use Rattle.rules.proofs.Copies.Lines.{base-line, line-fits, line-apart}
 use Rattle.rules.proofs.Serial.Values.{charge, over}
 use Rattle.rules.proofs.Serial.Shown.{shownCard, shownBase, IsStorable, shown-plain, shown-charge}
 

@@ -14,13 +14,15 @@ use Rattle.rules.specs.Card.{accountCount, IsCharge}
 use Rattle.rules.specs.Table.{hasEnd, width, mostActions, live, committed, aborted, word, startedField, started, counterField, counter, parentField, parentOf, stateField, stateOf, withState, endField, endTime, readField, readEntry, hasRead, readTime, writeField, writeEntry, entered, hasWritten, hasWrites, pendingField, pendingWord, isLive, isCommitted, actions}
 use Rattle.rules.specs.Queue.{theQueue, queueLengthField, isQueued}
 use Rattle.rules.specs.Sound.{hasState, IsStarted, Sound}
-use Rattle.rules.specs.Step.{commitTime, commitCounter, passesRead, joinedRead, joinedPending, commitTable}
+use Rattle.rules.specs.Ledger.{Ledger}
+use Rattle.rules.specs.Commit.{commitTime, commitCounter, passesRead, joinedRead, committedUnder}
 use Rattle.rules.proofs.Laws.Tests.{and-left, and-right, and-both, test, not-both, false-of-not-true, cond-holds}
 use Rattle.rules.proofs.Laws.Ranges.{count-agree, count-one-more}
 use Rattle.rules.proofs.Laws.Permitted.{Committable, no-live-child, not-own-parent}
 use Rattle.rules.proofs.Laws.Words.{withWord-length, word-same, word-other-row, word-off-field}
 use Rattle.rules.proofs.Laws.Queue.{SameLine}
 use Rattle.rules.proofs.Laws.Walking.{parent-known}
+use Rattle.rules.proofs.Copies.Turns.{addedWord}
 use Rattle.rules.proofs.Sound.TableChanges.{TableChange, Ended, SumStays, sum-stays, line-stays, writes-agree, live-uncommitted}
 use Rattle.rules.proofs.Sound.Committing.{commit-length, commit-started, commit-parent, commit-keeps-row, commit-keeps-sets, commit-keeps-others, commit-line, commit-counter, commit-state, commit-end, commit-read, commit-write, commit-pending}
 
@@ -148,12 +150,15 @@ joined-bound w n p k c child parent =
     (λ _. cond-holds (λ e. e - 1 ≤ c) (eqb (readEntry w p k) 0) (λ _. child) (λ _. omega (arith, child, parent)))
     (λ _. parent)
 
-module _ (w : List ℕ) (s : Sound w) (n : ℕ) (j : Committable w n) where
+module _ (ledger : Ledger) (s : Sound (ledger .table)) (n : ℕ) (j : Committable (ledger .table) n) where
+  abbrev w : List ℕ
+  w = ledger .table
+
   abbrev parent : ℕ
   parent = parentOf w n
 
   abbrev passed : List ℕ
-  passed = commitTable w n parent
+  passed = committedUnder ledger n parent .table
 
   n-few : n ≤ mostActions
   n-few = omega (arith, j .own, s .few)
@@ -166,13 +171,13 @@ module _ (w : List ℕ) (s : Sound w) (n : ℕ) (j : Committable w n) where
   parent-live pos = ⊎-elim (λ z. absurd (omega arith)) (λ l. l) (s .alive n (j .own) (j .alive))
 
   pass-state : stateOf passed n ≡ committed
-  pass-state = commit-state w n parent (j .own .0) (s .long) n-few
+  pass-state = commit-state ledger n parent (j .own .0) (s .long) n-few
 
   pass-others : (m : ℕ) → 1 ≤ m → m ≢ n → stateOf passed m ≡ stateOf w m
-  pass-others m pos ne = commit-keeps-row w n parent (j .own .0) m stateField (omega arith) pos ne (inr (omega arith))
+  pass-others m pos ne = commit-keeps-row ledger n parent (j .own .0) m stateField (omega arith) pos ne (inr (omega arith))
 
   pass-counter : counter passed ≡ commitCounter w n
-  pass-counter = commit-counter w n parent (j .own .0) (s .long) n-few
+  pass-counter = commit-counter ledger n parent (j .own .0) (s .long) n-few
 
   -- the counter goes up by one at the most
   counter-step : (counter w ≤ commitCounter w n) × (commitCounter w n ≤ suc (counter w))
@@ -183,7 +188,7 @@ module _ (w : List ℕ) (s : Sound w) (n : ℕ) (j : Committable w n) where
   one-more-committed : count (isCommitted passed) (actions passed) ≡ suc (count (isCommitted w) (actions w))
   unfolding actions
   one-more-committed =
-      rw (commit-started w n parent (j .own .0))
+      rw (commit-started ledger n parent (j .own .0))
       (count-one-more (isCommitted w) (isCommitted passed) 1 (started w) n (omega (arith, j .own))
       (false-of-not-true _ (live-uncommitted w n (j .alive)))
       (eq-eqb _ _ pass-state)
@@ -195,11 +200,11 @@ module _ (w : List ℕ) (s : Sound w) (n : ℕ) (j : Committable w n) where
   own-end e = inr (refl, own-time ∙ rw wrote refl ∙ sym pass-counter, rw (pass-counter, wrote) (omega arith))
     where
       own-time : endTime passed n ≡ commitTime w n
-      own-time = commit-end w n parent (j .own .0) (s .long) n-few
+      own-time = commit-end ledger n parent (j .own .0) (s .long) n-few
 
       wrote : hasWrites w n ≡ true
       wrote =
-          sym (writes-agree w passed n (λ k hk. commit-keeps-sets w n parent (j .own .0) (λ z. not-own-parent j (sym z)) (writeField k) (omega arith) (omega arith)))
+          sym (writes-agree w passed n (λ k hk. commit-keeps-sets ledger n parent (j .own .0) (λ z. not-own-parent j (sym z)) (writeField k) (omega arith) (omega arith)))
           ∙ and-right (isCommitted passed n) (hasWrites passed n) e
 
   -- another action that has an end keeps its row: it is committed, and the parent is live
@@ -209,9 +214,9 @@ module _ (w : List ℕ) (s : Sound w) (n : ℕ) (j : Committable w n) where
       let apart : m ≢ parent = λ z. live-uncommitted w m (rw z (parent-live (rw z at (h .0)))) did in
       inl (
         and-both did
-            (sym (writes-agree w passed m (λ k hk. commit-keeps-row w n parent (j .own .0) m (writeField k) (omega arith) (h .0) ne (inl apart)))
+            (sym (writes-agree w passed m (λ k hk. commit-keeps-row ledger n parent (j .own .0) m (writeField k) (omega arith) (h .0) ne (inl apart)))
             ∙ and-right (isCommitted passed m) (hasWrites passed m) e),
-        commit-keeps-row w n parent (j .own .0) m endField (omega arith) (h .0) ne (inr (omega arith)),
+        commit-keeps-row ledger n parent (j .own .0) m endField (omega arith) (h .0) ne (inr (omega arith)),
       )
 
   pass-end : (m : ℕ) → IsStarted w m → hasEnd passed m ≡ true → Ended w passed n m
@@ -242,13 +247,13 @@ module _ (w : List ℕ) (s : Sound w) (n : ℕ) (j : Committable w n) where
       go (yes z) =
           let pos : 1 ≤ parent = rw z at (h .0) in
           let few : parent ≤ mostActions = omega (arith, parent-started, s .few) in
-          rw (z, commit-read w n parent (j .own .0) (s .long) n-few pos few k hk)
+          rw (z, commit-read ledger n parent (j .own .0) (s .long) n-few pos few k hk)
           (joined-bound w n parent k (counter passed)
           (old-time n k (j .own) (j .alive) hk)
           (old-time parent k (pos, parent-started) (parent-live pos) hk))
       go (no ne) =
           let entry : readEntry passed m k ≡ readEntry w m k =
-          commit-keeps-row w n parent (j .own .0) m (readField k) (omega arith) (h .0) other (inl ne) in
+          commit-keeps-row ledger n parent (j .own .0) m (readField k) (omega arith) (h .0) other (inl ne) in
           rw entry (old-time m k h was hk)
 
   -- an account that n has written enters the parent's write set; any other keeps its entry and its sum there
@@ -259,10 +264,10 @@ module _ (w : List ℕ) (s : Sound w) (n : ℕ) (j : Committable w n) where
       low = omega (arith, parent-started, s .few)
 
       entry : writeEntry passed parent k ≡ cond (hasWritten w n k) entered (writeEntry w parent k)
-      entry = commit-write w n parent (j .own .0) (s .long) n-few pos low k (charge .1)
+      entry = commit-write ledger n parent (j .own .0) (s .long) n-few pos low k (charge .1)
 
-      sum : pendingWord passed parent k ≡ joinedPending w n parent k
-      sum = commit-pending w n parent (j .own .0) (s .long) n-few pos low k charge
+      sum : pendingWord passed parent k ≡ cond (hasWritten w n k) (addedWord w n parent k) (pendingWord w parent k)
+      sum = commit-pending ledger n parent (j .own .0) (s .long) n-few pos low (λ z. not-own-parent j (sym z)) k charge
 
       go : (b : Bool) → hasWritten w n k ≡ b → SumStays w passed parent k
       go true wrote = λ none. absurd (not-both (rw (entry, wrote) refl) none)
@@ -274,25 +279,25 @@ module _ (w : List ℕ) (s : Sound w) (n : ℕ) (j : Committable w n) where
       go : Dec (m ≡ parent) → SumStays w passed m k
       go (yes z) = rw z (parent-sums (rw z at (h .0)) k charge)
       go (no apart) =
-          let kept = commit-keeps-others w n parent (j .own .0) m apart in
+          let kept = commit-keeps-others ledger n parent (j .own .0) m apart in
           sum-stays w passed m k (kept (writeField k) (omega arith) (omega arith)) (kept (pendingField k) (omega arith) (omega arith))
 
-  pub commit-change : TableChange w (commitTable w n (parentOf w n)) n
+  pub commit-change : TableChange (ledger .table) (committedUnder ledger n (parentOf (ledger .table) n) .table) n
   commit-change =
       record {
-        long = commit-length w n parent (j .own .0) ∙ s .long;
-        sameStarted = commit-started w n parent (j .own .0);
+        long = commit-length ledger n parent (j .own .0) ∙ s .long;
+        sameStarted = commit-started ledger n parent (j .own .0);
         rising = rw pass-counter (counter-step .0);
         counted = rw (pass-counter, one-more-committed) (omega (arith, counter-step .1, s .counted));
         states = has-state w passed n j (inl pass-state) pass-others s;
-        parents = λ m h. commit-parent w n parent (j .own .0) m;
+        parents = λ m h. commit-parent ledger n parent (j .own .0) m;
         wasLive = was-live w passed n j (inl pass-state) pass-others;
         parentStays = parent-stays w passed n j (inl pass-state) pass-others;
         reads = pass-reads;
         ends = pass-end;
         pendings = pass-sums;
         line =
-            line-stays w passed s (commit-line w n parent (j .own .0)) (commit-started w n parent (j .own .0))
-            (λ m h. commit-parent w n parent (j .own .0) m)
+            line-stays w passed s (commit-line ledger n parent (j .own .0)) (commit-started ledger n parent (j .own .0))
+            (λ m h. commit-parent ledger n parent (j .own .0) m)
             (was-live w passed n j (inl pass-state) pass-others) (waiting-stays w passed n j (inl pass-state) pass-others s);
       }

@@ -13,7 +13,7 @@ use Rattle.rules.specs.Event.{Event}
 use Rattle.rules.specs.declared.Found.{Found}
 use Rattle.rules.specs.declared.Found.the-variants.{Nothing, At}
 use Rattle.rules.specs.Ledger.{Ledger}
-use Rattle.rules.specs.Step.{Outcome, start, read, write, add, committedUnder, judged, enter, revealed, judgeLeft, judge, dropped, abortLeft, abort, step}
+use Rattle.rules.specs.Step.{Outcome, start, read, write, add, judged, enter, revealed, judgeLeft, judge, dropped, abortLeft, abort, step}
 use Rattle.rules.proofs.Laws.Permitted.{Startable, Touchable, Committable, Judgeable, step-by-kind}
 use Rattle.rules.proofs.Sound.Soundness.{facts}
 use Rattle.rules.proofs.Sound.TableChanges.{TableChange, change-keeps-sound}
@@ -57,8 +57,8 @@ module _ (s : Ledger) (was : Sound (s .table)) (n : ℕ) where
   add-sound k card p charge = by-change _ (add-change (s .table) was n k (p .own) (p .alive) charge _)
 
   judged-sound : Committable (s .table) n → (f : Found) → Sounds (judged s n f) []
-  unfolding judged committedUnder
-  judged-sound j Nothing = by-change _ (commit-change (s .table) was n j)
+  unfolding judged
+  judged-sound j Nothing = by-change _ (commit-change s was n j)
   judged-sound j (At t k) = by-change _ (fail-change (s .table) was n j)
 
   enter-sound : Committable (s .table) n → Sounds (enter s n) []

@@ -16,7 +16,7 @@ use Rattle.rules.specs.Walk.{isAtOrBelow, isAbortedBy}
 use Rattle.rules.specs.Queue.{theQueue, queueLength, Entry, entryAt, queue, isQueued, headOf, isHeadReady, keepsPlace, withoutBelow}
 use Rattle.rules.specs.Sound.{areDistinct, queueNumbers, IsStarted, Sound}
 use Rattle.rules.specs.Ledger.{Ledger}
-use Rattle.rules.specs.Step.{committedUnder, finished, Left, nobodyLeft, leaveWhile, leave, headIn, headOut, isHeadOutside, headLeft, headBefore}
+use Rattle.rules.specs.Step.{finished, Left, nobodyLeft, leaveWhile, leave, headIn, headOut, isHeadOutside, headLeft, headBefore}
 use Rattle.rules.proofs.Laws.Tests.{and-left, and-both, or-cases, or-inl, or-inr, not-both, false-of-not-true}
 use Rattle.rules.proofs.Laws.Lists.{any-map, all-map, listed-all, filter-whole}
 use Rattle.rules.proofs.Laws.Distinct.{distinct-parts}
@@ -121,7 +121,7 @@ module _ (s : Ledger) (sound : Sound (s .table)) (ready : isHeadReady (s .table)
 
   -- its table is sound, and the queue is as it was when the head was taken out
   finished-sound : (b : Bool) → Sound (finished (headOut theQueue s) (headIn theQueue s) b .table)
-  unfolding finished committedUnder
+  unfolding finished
   finished-sound true = change-keeps-sound _ _ _ head-out-sound (fail-change _ head-out-sound (headIn theQueue s) head-committable)
   finished-sound false = change-keeps-sound _ _ _ head-out-sound (commit-change _ head-out-sound (headIn theQueue s) head-committable)
 
@@ -129,7 +129,7 @@ module _ (s : Ledger) (sound : Sound (s .table)) (ready : isHeadReady (s .table)
   head-left-sound = finished-sound (isHeadOutside theQueue s)
 
   pub finished-queue : (b : Bool) → queue (finished (headOut theQueue s) (headIn theQueue s) b .table) theQueue ≡ queue (headOut theQueue s .table) theQueue
-  unfolding finished committedUnder
+  unfolding finished
   finished-queue true = queue-kept _ _ theQueue (omega arith) (fail-line _ head-out-sound (headIn theQueue s) head-committable)
   finished-queue false = queue-kept _ _ theQueue (omega arith) (commit-line _ (headIn theQueue s) _ (head-committable .own .0))
 

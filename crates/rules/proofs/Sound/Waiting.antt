@@ -7,11 +7,12 @@ use mathlib.Core.Logic.{inl, _≢_}
 use mathlib.Core.Bool.{Bool, true, false}
 use mathlib.Core.List.{List}
 use Rattle.rules.specs.Range.{any}
-use Rattle.rules.specs.Table.{actionWidth, word, stateField, withState, aborted, parentOf}
+use Rattle.rules.specs.Table.{actionWidth, word, stateField, aborted, parentOf}
 use Rattle.rules.specs.Queue.{theQueue, isOf, isQueued, isHeadReady}
 use Rattle.rules.specs.Sound.{Sound}
 use Rattle.rules.specs.Ledger.{Ledger}
-use Rattle.rules.specs.Step.{commitTable, committedUnder, finished, headIn, headOut, isHeadOutside, headLeft}
+use Rattle.rules.specs.Commit.{committedUnder}
+use Rattle.rules.specs.Step.{failedLedger, finished, headIn, headOut, isHeadOutside, headLeft}
 use Rattle.rules.proofs.Laws.Tests.{not-both}
 use Rattle.rules.proofs.Laws.Permitted.{Committable, no-live-child}
 use Rattle.rules.proofs.Laws.Words.{word-other-row}
@@ -22,20 +23,22 @@ use Rattle.rules.proofs.Sound.Leaving.{head-out-sound, head-committable
 -- ---- one that doesn't wait ends
 
 module _
-    {w : List ℕ} (sound : Sound w) {n : ℕ} (free : Committable w n) (m : ℕ) (queued : isQueued w theQueue m ≡ true) where
+    (s : Ledger) (sound : Sound (s .table)) {n : ℕ} (free : Committable (s .table) n) (m : ℕ)
+    (queued : isQueued (s .table) theQueue m ≡ true) where
   not-it : m ≢ n
   not-it same = not-both queued (rw same (free .unqueued))
 
-  not-its-parent : m ≢ parentOf w n
+  not-its-parent : m ≢ parentOf (s .table) n
   not-its-parent same =
-      no-live-child w m (sound .line .waits m queued .childless) n (free .own) (free .alive) (sym same)
+      no-live-child (s .table) m (sound .line .waits m queued .childless) n (free .own) (free .alive) (sym same)
 
-  fail-keeps-waiting : (g : ℕ) → g < actionWidth → word (withState w n aborted) m g ≡ word w m g
-  fail-keeps-waiting g inside = word-other-row w n m stateField g aborted (omega arith) (omega arith) not-it
+  fail-keeps-waiting : (g : ℕ) → g < actionWidth → word (failedLedger s n .table) m g ≡ word (s .table) m g
+  fail-keeps-waiting g inside = word-other-row (s .table) n m stateField g aborted (omega arith) (omega arith) not-it
 
-  pub commit-keeps-waiting : (g : ℕ) → g < actionWidth → word (commitTable w n (parentOf w n)) m g ≡ word w m g
+  pub commit-keeps-waiting :
+      (g : ℕ) → g < actionWidth → word (committedUnder s n (parentOf (s .table) n) .table) m g ≡ word (s .table) m g
   commit-keeps-waiting g inside =
-      commit-keeps-row w n (parentOf w n) (free .own .0) m g (omega arith) (sound .line .waits m queued .begun .0) not-it
+      commit-keeps-row s n (parentOf (s .table) n) (free .own .0) m g (omega arith) (sound .line .waits m queued .begun .0) not-it
       (inl not-its-parent)
 
 -- ---- the head leaves
@@ -50,9 +53,9 @@ module _ (s : Ledger) (sound : Sound (s .table)) (ready : isHeadReady (s .table)
   -- who waits when it has been taken out
   module _ (m : ℕ) (queued : isQueued w theQueue m ≡ true) where
     finished-row : (b : Bool) (g : ℕ) → g < actionWidth → word (finished (headOut theQueue s) n b .table) m g ≡ word w m g
-    unfolding finished committedUnder
-    finished-row true = fail-keeps-waiting (head-out-sound s sound ready) (head-committable s sound ready) m queued
-    finished-row false = commit-keeps-waiting (head-out-sound s sound ready) (head-committable s sound ready) m queued
+    unfolding finished
+    finished-row true = fail-keeps-waiting (headOut theQueue s) (head-out-sound s sound ready) (head-committable s sound ready) m queued
+    finished-row false = commit-keeps-waiting (headOut theQueue s) (head-out-sound s sound ready) (head-committable s sound ready) m queued
 
     out-row : (g : ℕ) → g < actionWidth → word w m g ≡ word (s .table) m g
     out-row g inside = without-keeps sound n m g inside (inl (head-out-sound s sound ready .line .waits m queued .begun .0))

@@ -20,7 +20,7 @@ use Rattle.rules.proofs.Laws.Walking.{sound-climbs, movesToStore, neare
 use Rattle.rules.proofs.Laws.Charges.{nearest-charge, movesUp-charge}
 use Rattle.rules.proofs.Sound.Soundness.{facts}
 use Rattle.rules.proofs.Laws.Allowed.{Allowed, allowed}
-use Rattle.rules.proofs.Stores.Copies.{base-line, shadow-line, line-fits}
+use Rattle.rules.proofs.Copies.Lines.{base-line, shadow-line, line-fits}
 
 -- RULES 3.2: its cause is the one of a read of the same action and account
 pub look-refused-as-read :

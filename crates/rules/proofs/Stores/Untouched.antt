@@ -27,7 +27,7 @@ use Rattle.rules.proofs.Laws.Cards.{Fits, withCard-length, withCard-out
 use Rattle.rules.proofs.Laws.EventCases.{causeIn, AllowedIn, OfStep, step-by-cause, act-by-kind, no-start}
 use Rattle.rules.proofs.Laws.Permitted.{named-started, judge-permitted}
 use Rattle.rules.proofs.Sound.Soundness.{facts}
-use Rattle.rules.proofs.Stores.Copies.{shadow-line, line-fits}
+use Rattle.rules.proofs.Copies.Lines.{shadow-line, line-fits}
 use Rattle.rules.proofs.Stores.Leaves.{LedgerFits, SameLengths, Leaves, stores-stay, isSettledBy, LeavesBy}
 use Rattle.rules.proofs.Stores.Committed.{not-among, commit-leaves}
 use Rattle.rules.proofs.Stores.Leavers.{judge-leaves, abort-leaves}

@@ -12,7 +12,8 @@ use Rattle.rules.specs.Queue.{theQueue, isQueuedFailed, isHeadReady}
 use Rattle.rules.specs.Event.{Event}
 use Rattle.rules.specs.Ledger.{Ledger, ledgerOf, withTable}
 use Rattle.rules.specs.Cause.{isCommitOutside}
-use Rattle.rules.specs.Step.{startTable, start, read, write, add, committedUnder, judged, takenOut, finished, leave, enter, revealed, judgeLeft, judge, dropped, abortLeft, abort, step, headIn, headOut, isHeadOutside, headLeft}
+use Rattle.rules.specs.Commit.{committedUnder}
+use Rattle.rules.specs.Step.{startTable, start, read, write, add, judged, takenOut, finished, leave, enter, revealed, judgeLeft, judge, dropped, abortLeft, abort, step, headIn, headOut, isHeadOutside, headLeft}
 use Rattle.rules.proofs.Laws.Permitted.{Startable, Touchable, Committable, Judgeable, step-by-kind}
 use Rattle.rules.proofs.Sound.QueueChanges.{out-committable}
 use Rattle.rules.proofs.Sound.Leaving.{head-committable}

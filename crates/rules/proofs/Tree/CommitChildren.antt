@@ -13,7 +13,7 @@ use Rattle.rules.specs.Amount.{amountOf}
 use Rattle.rules.specs.Table.{committed, started, parentOf, stateField, pendingField, pendingWord, pendingSum, isCommitted, actions}
 use Rattle.rules.specs.Sound.{IsStarted}
 use Rattle.rules.specs.Ledger.{Ledger}
-use Rattle.rules.specs.Step.{commitTable}
+use Rattle.rules.specs.Commit.{committedUnder}
 use Rattle.rules.proofs.Laws.Tests.{false-of-not-true}
 use Rattle.rules.proofs.Laws.Permitted.{Committable}
 use Rattle.rules.proofs.Sound.TableChanges.{live-uncommitted}
@@ -31,7 +31,7 @@ module _
   w = s .table
 
   abbrev v : List ℕ
-  v = commitTable (s .table) n p
+  v = committedUnder s n p .table
 
   -- the parent of a live action has not committed
   committed-no-parent : (m : ℕ) → IsStarted w m → isCommitted w m ≡ true → m ≢ p
@@ -42,14 +42,14 @@ module _
       (proper .sound .alive n (judged .own) (judged .alive))
 
   sum-kept : (m : ℕ) → m ≢ p → pendingWord v m k ≡ pendingWord w m k
-  sum-kept m other = commit-keeps-others w n p (judged .own .0) m other (pendingField k) (omega arith) (omega arith)
+  sum-kept m other = commit-keeps-others s n p (judged .own .0) m other (pendingField k) (omega arith) (omega arith)
 
   others-bring : (q m : ℕ) → IsStarted w m → m ≢ n → brought v (pendings v k) q m ≡ brought w (pendings w k) q m
   others-bring q m h other =
       brings-same w v (pendings w k) (pendings v k) q m
-      (commit-parent w n p (judged .own .0) m)
+      (commit-parent s n p (judged .own .0) m)
       (ap (λ x. eqb x committed)
-      (commit-keeps-row w n p (judged .own .0) m stateField (omega arith) (h .0) other (inr (omega arith))))
+      (commit-keeps-row s n p (judged .own .0) m stateField (omega arith) (h .0) other (inr (omega arith))))
       (λ child did. ap amountOf (sum-kept m (committed-no-parent m h did)))
 
   -- it brought nothing before
@@ -59,26 +59,26 @@ module _
 
   now-brings : brought v (pendings v k) p n ≡ pendingSum w n k
   now-brings =
-      child-brings v (pendings v k) p n (commit-parent w n p (judged .own .0) n ∙ under) (now-committed proper judged under)
+      child-brings v (pendings v k) p n (commit-parent s n p (judged .own .0) n ∙ under) (now-committed proper judged under)
       ∙ ap amountOf (sum-kept n (λ e. parent-other proper judged under (sym e)))
 
   pub others-children-kept : (q : ℕ) → q ≢ p → fromChildren v k q ≡ fromChildren w k q
   others-children-kept q other =
-      same-brought w v (pendings w k) (pendings v k) q (commit-started w n p (judged .own .0))
+      same-brought w v (pendings w k) (pendings v k) q (commit-started s n p (judged .own .0))
       (λ m h. brings m h (ℕ-discrete m n))
     where
       brings : (m : ℕ) → IsStarted w m → Dec (m ≡ n) → brought v (pendings v k) q m ≡ brought w (pendings w k) q m
       brings m h (no ne) = others-bring q m h ne
       brings m h (yes e) =
           rw e
-          (other-brings-nothing v (pendings v k) q n (λ child. other (sym child ∙ commit-parent w n p (judged .own .0) n ∙ under))
+          (other-brings-nothing v (pendings v k) q n (λ child. other (sym child ∙ commit-parent s n p (judged .own .0) n ∙ under))
           ∙ sym (brought-nothing q))
 
   pub parents-children-grow : (q : ℕ) → q ≡ p → fromChildren v k q ≡ fromChildren w k q +ℤ pendingSum w n k
   unfolding actions
   parents-children-grow q its =
       rw its (all-brought v (pendings v k) p
-      ∙ rw (commit-started w n p (judged .own .0))
+      ∙ rw (commit-started s n p (judged .own .0))
       (addedUp-above _ _ (pendingSum w n k) 1 (started w) n (omega (arith, judged .own))
       (now-brings ∙ sym (ap (λ z. z +ℤ pendingSum w n k) (brought-nothing p) ∙ +ℤ-idl (pendingSum w n k)))
       (λ m h. others-bring p m (omega arith)))

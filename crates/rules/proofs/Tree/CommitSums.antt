@@ -10,10 +10,11 @@ use Rattle.rules.specs.Amount.{amountOf, amountIn, baseAmount}
 use Rattle.rules.specs.Table.{parentOf, hasWritten, pendingSum}
 use Rattle.rules.specs.Ledger.{Ledger}
 use Rattle.rules.specs.Cause.{isCommitOutside}
-use Rattle.rules.specs.Step.{commitTable, settledCard, committedUnder}
+use Rattle.rules.specs.Commit.{committedUnder}
 use Rattle.rules.proofs.Laws.Tests.{cond-holds}
 use Rattle.rules.proofs.Laws.Amounts.{amount-zero, amount-read-back, amount-put}
 use Rattle.rules.proofs.Laws.Permitted.{Committable}
+use Rattle.rules.proofs.Copies.Turns.{settledCard}
 use Rattle.rules.proofs.Serial.Settling.{is-charge}
 use Rattle.rules.proofs.Demand.Proper.{Proper}
 use Rattle.rules.proofs.Demand.CommitCards.{commit-base-card}
@@ -30,7 +31,7 @@ module _
   nothing-added z unwritten = sym (ap (λ y. z +ℤ y) (unwritten-nothing unwritten) ∙ +ℤ-idr z)
 
   pub parent-grows :
-      p ≢ 0 → pendingSum (commitTable (s .table) n p) p k ≡ pendingSum (s .table) p k +ℤ pendingSum (s .table) n k
+      p ≢ 0 → pendingSum (committedUnder s n p .table) p k ≡ pendingSum (s .table) p k +ℤ pendingSum (s .table) n k
   parent-grows sub =
       ap amountOf (parent-pending proper judged under fits k sub charge)
       ∙ cond-holds (λ x. amountOf x ≡ pendingSum (s .table) p k +ℤ pendingSum (s .table) n k) (hasWritten (s .table) n k)

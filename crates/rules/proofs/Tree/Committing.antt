@@ -7,7 +7,6 @@ use mathlib.Core.Logic.{_≢_}
 use mathlib.Core.Bool.{false}
 use mathlib.Core.List.{List}
 use lib.IntN.{ℤ, _+ℤ_, +ℤ-assoc}
-use borrow.Author.Tests.{ne-eqb}
 use Rattle.rules.specs.declared.Found.the-variants.{Nothing}
 use Rattle.rules.specs.Card.{IsCharge}
 use Rattle.rules.specs.Amount.{amountOf, baseAmount}
@@ -15,10 +14,11 @@ use Rattle.rules.specs.Table.{parentOf, pendingField, pendingSum, ownAdd
 use Rattle.rules.specs.Sound.{IsStarted}
 use Rattle.rules.specs.Ledger.{Ledger}
 use Rattle.rules.specs.Cause.{isCommitOutside}
-use Rattle.rules.specs.Step.{commitTable, committedUnder}
+use Rattle.rules.specs.Commit.{committedUnder}
 use Rattle.rules.proofs.Laws.Permitted.{Committable}
 use Rattle.rules.proofs.Sound.Committing.{commit-started, commit-keeps-others, commit-own-adds}
 use Rattle.rules.proofs.Demand.Proper.{Proper}
+use Rattle.rules.proofs.Demand.CommitCards.{commit-base-same}
 use Rattle.rules.proofs.Tree.Carried.{fromChildren, Carried}
 use Rattle.rules.proofs.Tree.CommitSums.{parent-grows, base-grows}
 use Rattle.rules.proofs.Tree.CommitChildren.{others-children-kept, parents-children-grow}
@@ -31,14 +31,14 @@ module _
   w = s .table
 
   abbrev v : List ℕ
-  v = commitTable (s .table) n p
+  v = committedUnder s n p .table
 
   own-kept : (m : ℕ) → ownAdds v m k ≡ ownAdds w m k
-  own-kept m = ap amountOf (commit-own-adds w n p (judged .own .0) m k charge)
+  own-kept m = ap amountOf (commit-own-adds s n p (judged .own .0) m k charge)
 
   other-carried : (m : ℕ) → IsStarted w m → m ≢ p → pendingSum v m k ≡ ownAdds v m k +ℤ fromChildren v k m
   other-carried m h other =
-      ap amountOf (commit-keeps-others w n p (judged .own .0) m other (pendingField k) (omega arith) (omega arith))
+      ap amountOf (commit-keeps-others s n p (judged .own .0) m other (pendingField k) (omega arith) (omega arith))
       ∙ was .sums m h
       ∙ sym (ap₂ _+ℤ_ (own-kept m) (others-children-kept proper judged under k charge m other))
 
@@ -50,20 +50,19 @@ module _
       ∙ sym (ap₂ _+ℤ_ (own-kept p) (parents-children-grow proper judged under k charge p refl))
 
   store-carried : Dec (p ≡ 0) → baseAmount (committedUnder s n p .base) k ≡ opening +ℤ fromChildren v k 0
-  unfolding committedUnder
   store-carried (yes top) =
       base-grows proper judged under fits k charge top
       ∙ ap (λ z. z +ℤ pendingSum w n k) (was .closing)
       ∙ +ℤ-assoc opening (fromChildren w k 0) (pendingSum w n k)
       ∙ ap (λ z. opening +ℤ z) (sym (parents-children-grow proper judged under k charge 0 (sym top)))
   store-carried (no sub) =
-      rw (ne-eqb p 0 sub)
+      rw (commit-base-same proper judged under sub)
       (was .closing ∙ ap (λ z. opening +ℤ z) (sym (others-children-kept proper judged under k charge 0 (λ e. sub (sym e)))))
 
   pub commit-carried : Carried k opening v (baseAmount (committedUnder s n p .base) k)
   commit-carried =
       record {
-        sums = λ m h. by-parent m (h .0, rw (commit-started w n p (judged .own .0)) at (h .1)) (ℕ-discrete m p);
+        sums = λ m h. by-parent m (h .0, rw (commit-started s n p (judged .own .0)) at (h .1)) (ℕ-discrete m p);
         closing = store-carried (ℕ-discrete p 0);
       }
     where

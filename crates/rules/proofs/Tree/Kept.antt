@@ -10,7 +10,7 @@ use Rattle.rules.specs.Amount.{baseAmount}
 use Rattle.rules.specs.Table.{newTable, word, actions}
 use Rattle.rules.specs.Event.{Event}
 use Rattle.rules.specs.Ledger.{Ledger}
-use Rattle.rules.specs.Step.{committedUnder, step}
+use Rattle.rules.specs.Step.{step}
 use Rattle.rules.specs.Run.{run}
 use Rattle.rules.specs.Tree.{children, committedChildren, addedUp}
 use Rattle.rules.specs.Serial.Demand.{newOver}
@@ -32,7 +32,6 @@ new-carried base shadow k =
 
 module _ {k : ℕ} (charge : IsCharge k) (opening : List ℕ) where
   step-carried : (s : Ledger) (e : Event) → Proper s → CarriedIn k opening s → CarriedIn k opening (step s e .after)
-  unfolding committedUnder
   step-carried s e proper was =
       step-by-change charge (CarriedIn k opening)
       (λ t v shadow calm. quiet-carried (calm-quiet calm))

@@ -9,7 +9,8 @@ use Rattle.rules.specs.Table.{word, newTable, ownAddsField, ownAdds}
 use Rattle.rules.specs.Sound.{IsStarted, Sound}
 use Rattle.rules.specs.Event.{Event}
 use Rattle.rules.specs.Ledger.{Ledger}
-use Rattle.rules.specs.Step.{startTable, commitTable, committedUnder, step}
+use Rattle.rules.specs.Commit.{committedUnder}
+use Rattle.rules.specs.Step.{startTable, step}
 use Rattle.rules.specs.Run.{run}
 use Rattle.rules.proofs.Laws.Integers.{up, dn}
 use Rattle.rules.proofs.Laws.Amounts.{amount-zero, addable-holds}
@@ -37,9 +38,10 @@ calm-at-most k c {w} was calm m h =
     rw (calm .owns m before) (was m before)
 
 commit-at-most :
-    {k : ℕ} → IsCharge k → (c : ℕ) (w : List ℕ) (n p : ℕ) → Committable w n → OwnAtMost k c w → OwnAtMost k c (commitTable w n p)
-commit-at-most {k} charge c w n p judged was m h =
-    rw (commit-own-adds w n p (judged .own .0) m k charge) (was m (h .0, rw (commit-started w n p (judged .own .0)) at (h .1)))
+    {k : ℕ} → IsCharge k → (c : ℕ) (s : Ledger) (n p : ℕ) → Committable (s .table) n → OwnAtMost k c (s .table) →
+    OwnAtMost k c (committedUnder s n p .table)
+commit-at-most {k} charge c s n p judged was m h =
+    rw (commit-own-adds s n p (judged .own .0) m k charge) (was m (h .0, rw (commit-started s n p (judged .own .0)) at (h .1)))
 
 -- ---- any other change no more than an event may
 
@@ -63,11 +65,10 @@ module _ {k : ℕ} (charge : IsCharge k) where
   step-at-most :
       (s : Ledger) (e : Event) (c : ℕ) → Proper s → OwnAtMost k c (s .table) →
       OwnAtMost k (mostAdded + c) (step s e .after .table)
-  unfolding committedUnder
   step-at-most s e c proper was =
       step-by-change charge (λ t. OwnAtMost k c (t .table))
       (λ t v shadow calm before. calm-at-most k c before calm)
-      (λ t here n may fits before. commit-at-most charge c (t .table) n _ may before)
+      (λ t here n may fits before. commit-at-most charge c t n _ may before)
       (λ t. OwnAtMost k (mostAdded + c) (t .table)) s e proper was
       (λ t before m h. omega (arith, before m h))
       (start-at-most charge (proper .sound) was (e .number))

@@ -1,6 +1,6 @@
 -- `end` puts the state, the end time and the counter, in the order of `endTable`. Assumes nothing.
 use borrow.Author.Needs.{needs}
-use Rattle.rules.specs.Step.{commitTime, commitCounter}
+use Rattle.rules.specs.Commit.{commitTime, commitCounter}
 use Rattle.commits.proofs.end.end.Statement.{statement}
 use Rattle.commits.proofs.end.end.Tie as tie
 

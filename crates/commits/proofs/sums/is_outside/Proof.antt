@@ -9,7 +9,7 @@ use Rattle.rules.specs.Card.{accountCount, firstCharge, chargeAccounts}
 use Rattle.rules.specs.Cause.{isCommitOutside}
 use Rattle.rules.specs.declared.Found.the-variants.{Nothing}
 use Rattle.rules.proofs.Laws.Ranges.{any-left-here, any-left-next, any-left-done}
-use Rattle.commits.specs.Settle.{isSumWrong}
+use Rattle.commits.specs.Outside.{isSumWrong}
 use Rattle.commits.proofs.sums.is_outside.Statement.{statement}
 use Rattle.commits.proofs.sums.is_outside.Tie as tie
 

@@ -9,7 +9,7 @@ use borrow.Author.Needs.{needs}
 use Rattle.rules.specs.Card.{accounts, accountCount}
 use Rattle.rules.specs.Range.{upFrom, fold}
 use Rattle.rules.specs.Table.{withFields, readField, withRead}
-use Rattle.rules.specs.Step.{joinedRead}
+use Rattle.rules.specs.Commit.{joinedRead}
 use Rattle.rules.proofs.Laws.Ranges.{fold-left-next, fold-left-done}
 use Rattle.rows.proofs.Joining.{reads-in-place}
 use Rattle.rows.proofs.join.join_reads.Statement.{statement}

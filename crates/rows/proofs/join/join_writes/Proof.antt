@@ -9,7 +9,7 @@ use borrow.Author.Needs.{needs}
 use Rattle.rules.specs.Card.{accounts, accountCount}
 use Rattle.rules.specs.Range.{upFrom, fold}
 use Rattle.rules.specs.Table.{withFields, writeField, withWrite}
-use Rattle.rules.specs.Step.{joinedWrite}
+use Rattle.rules.specs.Commit.{joinedWrite}
 use Rattle.rules.proofs.Laws.Ranges.{fold-left-next, fold-left-done}
 use Rattle.rows.proofs.Joining.{writes-in-place}
 use Rattle.rows.proofs.join.join_writes.Statement.{statement}

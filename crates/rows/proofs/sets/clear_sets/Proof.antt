@@ -1,7 +1,7 @@
 -- `clear_sets` clears the fields of one set, of the other, and of the pending sums, as the definition does. Assumes nothing.
 use borrow.Author.Needs.{needs}
 use Rattle.rules.specs.Card.{accounts, chargeAccounts}
-use Rattle.rules.specs.Table.{withSets}
+use Rattle.rules.specs.Table.{withBothSets, withSets}
 use Rattle.rows.proofs.sets.clear_sets.Statement.{statement}
 use Rattle.rows.proofs.sets.clear_sets.Tie as tie
 
@@ -18,7 +18,7 @@ same-length : tie.Need-same-length
 same-length c = search needs
 
 returns : tie.Need-returns
-unfolding withSets accounts chargeAccounts
+unfolding withSets withBothSets accounts chargeAccounts
 returns c =
     let third = c .before .before in
     let second = third .before .before .before .before in
