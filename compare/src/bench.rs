@@ -229,30 +229,52 @@ fn searches(rows: &mut Vec<Row>) {
     }
 }
 
-/// A commit to the store of what was added to every charge account. Each time the action is made live again, and the
-/// counter what it was.
-fn charge_commits(rows: &mut Vec<Row>) {
-    let mut ledger = new_world();
-    done(&mut ledger, &of(EVENT_START, STORE, NO_ACCOUNT));
-    for account in CHARGE_ACCOUNT..ACCOUNTS as u64 {
-        done(&mut ledger, &add(1, account));
-    }
+/// A commit of action n. Each time the action is made live again, and the counter what it was.
+fn commits_again(rows: &mut Vec<Row>, what: &str, mut ledger: Ledger, n: u64) {
     let mut lent = lend(&ledger);
-    let commit = of(EVENT_COMMIT, 1, NO_ACCOUNT);
+    let commit = of(EVENT_COMMIT, n, NO_ACCOUNT);
     done(&mut ledger.clone(), &commit);
     rows.push(measure(
-        "a commit with eight charge accounts",
+        what,
         &mut || {
             black_box(lent.event(&commit));
-            lent.table[ROW_WORDS + STATE] = LIVE;
+            lent.table[n as usize * ROW_WORDS + STATE] = LIVE;
             lent.table[COUNTER] = 0;
         },
         &mut || {
             black_box(ledger.event(&commit));
-            ledger.table.actions[0].state = State::Live;
+            ledger.table.actions[n as usize - 1].state = State::Live;
             ledger.table.counter = 0;
         },
     ));
+}
+
+/// The event that enters the account in action n's write set.
+fn entering(n: u64, account: u64) -> Event {
+    if account < CHARGE_ACCOUNT {
+        of(EVENT_WRITE, n, account)
+    } else {
+        add(n, account)
+    }
+}
+
+/// So many actions one below the other, of which the last has these accounts in its write set.
+fn writer(depth: u64, accounts: std::ops::Range<u64>) -> Ledger {
+    let mut w = new_world();
+    for parent in STORE..depth {
+        done(&mut w, &of(EVENT_START, parent, NO_ACCOUNT));
+    }
+    for account in accounts {
+        done(&mut w, &entering(depth, account));
+    }
+    w
+}
+
+fn commits(rows: &mut Vec<Row>) {
+    let all = ACCOUNTS as u64;
+    commits_again(rows, "a commit with eight charge accounts", writer(1, CHARGE_ACCOUNT..all), 1);
+    commits_again(rows, "a commit with 32 accounts, to the store", writer(1, 0..all), 1);
+    commits_again(rows, "a commit with 32 accounts, to its parent", writer(2, 0..all), 2);
 }
 
 /// Siblings under the store, of which each but the last has written and is queued. The last has read all but what they
@@ -424,7 +446,7 @@ pub fn bench(file: Option<&str>) -> Result<(), String> {
     charge_reads(&mut rows);
     looks(&mut rows);
     searches(&mut rows);
-    charge_commits(&mut rows);
+    commits(&mut rows);
     enters(&mut rows);
     judges_behind(&mut rows);
     judges_of_all(&mut rows);
