@@ -6,7 +6,7 @@
  * be any: a wrong one is refused, as is any content. A call that is refused leaves the table and both stores as they
  * were. No call fails in another way.
  *
- * Stack that a call takes: about 37 KB for a day; about 4.6 KB for an event or a list and 3.2 KB for a look where 64
+ * Stack that a call takes: about 37 KB for a day; at most 3.6 KB for an event or a list and 3.2 KB for a look, where 64
  * actions lie one below the other, as the walk up the parents calls itself. There a tree takes about 510 KB and a day's
  * tree 550 KB: its walk calls itself for each level and, within a level, for each number up to the child's.
  *
@@ -28,9 +28,9 @@
  *   15  a sum that 64 signed bits do not hold: the pending sum or the own adds that an add would leave, the sum that a
  *       read would give, or one that a commit without a clash would leave at the parent, where the action stays live;
  *       or a total or a sum of a tree
- *   16  any event but a judge or an abort, and the number names an action in the queue
- *   17  a judge, and the action is not in the queue, or is ready already
- *   18  a commit while the queue is not empty
+ *   16  any event but a judge or an abort, and the number names an action in a queue
+ *   17  a judge, and the action is not in its queue, or is ready already
+ *   18  a commit while the queue for that kind of action is not empty
  * An event's refusals are asked in the order 1 to 8, 13, 14, 9, 16, 17, 18, 15, and the first that applies is given. A
  * list asks 1, 2, then 10. A day asks 1, then 2 for the table's length alone, then its file, in an order of its own: 10
  * where it is empty, 11 for the count of cards, 10 where it ends before the count of events, 11 for that count, 10 for
@@ -41,12 +41,18 @@
  * number in two's complement, low byte first; the other 24 are the caller's own. An add joins the action's pending sum,
  * which a commit adds to the parent's, or to the amount in the base store.
  *
- * In place of a commit an action may enter the queue, where it does nothing more and waits. Whether it has failed is
- * settled as it enters, against the children of its parent that have committed or wait before it, and a judge reveals
- * it: one that failed is taken out and aborted, any other is ready. After a judge, and after an abort, the head leaves
- * while it is ready: it commits, or is aborted where 64 signed bits do not hold a sum that its commit would leave. The
- * answer says how many left, and none says who: a caller sees that only by what is live afterwards, for instance by the
- * states in the lines of mundzavch_tree.
+ * There are two kinds of action: topactions, whose parent is the store, and subactions, which are all others. Each kind
+ * has a counter and a queue of its own. A commit that has written raises the counter of its action's kind by 1, and
+ * that is its end time. The two counters run apart: a topaction and a subaction may have the same end time, and neither
+ * time says which of the two committed first.
+ *
+ * In place of a commit an action may enter the queue of its kind, where it does nothing more and waits. Whether it has
+ * failed is settled as it enters, against the children of its parent that have committed or wait before it, and a judge
+ * reveals it: one that failed is taken out and aborted, any other is ready. Then the head of that queue leaves while it
+ * is ready: it commits, or is aborted where 64 signed bits do not hold a sum that its commit would leave. After an
+ * abort the topactions' head leaves so, and after all of them the subactions'. The answer says how many left, and none
+ * says who: a caller sees that only by what is live afterwards, for instance by the states in the lines of
+ * mundzavch_tree.
  */
 #ifndef MUNDZAVCH_H
 #define MUNDZAVCH_H
@@ -61,9 +67,9 @@ extern "C" {
 /* Sizes. compare/build.rs reads these lines, and the values of the two enums below: plain numbers, one to a line. */
 #define MUNDZAVCH_ACTIONS 64          /* that a table sees in its life, numbered from 1 */
 #define MUNDZAVCH_ACCOUNTS 32         /* numbered from 0 */
-#define MUNDZAVCH_ROW_WORDS 86        /* uint64_t words in a row of a table: a head, then a row for each action, with
-                                         as many places of the queue */
-#define MUNDZAVCH_TABLE_WORDS 5590    /* uint64_t words in a table */
+#define MUNDZAVCH_ROW_WORDS 121       /* uint64_t words in a row of a table: a head, then a row for each action, with
+                                         as many places of each queue */
+#define MUNDZAVCH_TABLE_WORDS 7865    /* uint64_t words in a table */
 #define MUNDZAVCH_CARD_BYTES 32
 #define MUNDZAVCH_BASE_BYTES 1024     /* byte 32 k is the first of account k's card */
 #define MUNDZAVCH_SHADOW_BYTES 65536  /* byte 1024 (n - 1) + 32 k is the first of action n's card for account k */
@@ -84,8 +90,8 @@ enum {
     MUNDZAVCH_EVENT_COMMIT = 4,
     MUNDZAVCH_EVENT_ABORT = 5,
     MUNDZAVCH_EVENT_ADD = 6,   /* of the amount in the first 8 bytes of the card, whose others are not looked at */
-    MUNDZAVCH_EVENT_ENTER = 7, /* the queue, behind its tail */
-    MUNDZAVCH_EVENT_JUDGE = 8  /* an action in the queue, wherever it stands there */
+    MUNDZAVCH_EVENT_ENTER = 7, /* the queue of the action's kind, behind its tail */
+    MUNDZAVCH_EVENT_JUDGE = 8  /* an action in its queue, wherever it stands there */
 };
 
 /* Kinds of answers, with what `first`, `second` and `third` are. A number that a kind does not have is 0. */
@@ -95,27 +101,28 @@ enum {
     MUNDZAVCH_ANSWER_READ = 2,          /* first: the action whose card was read, 0 for the base store;
                                            second: how many moves up it was found, 0 for the action's own card */
     MUNDZAVCH_ANSWER_WRITTEN = 3,
-    MUNDZAVCH_ANSWER_COMMITTED = 4,     /* first: the end time, 0 where nothing was written */
+    MUNDZAVCH_ANSWER_COMMITTED = 4,     /* first: the end time, of the action's kind; 0 where nothing was written */
     MUNDZAVCH_ANSWER_FAILED = 5,        /* a commit with a clash, and the action is aborted; first: the clash's end
-                                           time, second: its account */
-    MUNDZAVCH_ANSWER_ABORTED = 6,       /* first: how many actions became aborted; second: how many then left the
-                                           queue, which the first does not count */
+                                           time, of the action's kind; second: its account */
+    MUNDZAVCH_ANSWER_ABORTED = 6,       /* first: how many actions became aborted; second: how many then left the two
+                                           queues, which the first does not count */
     MUNDZAVCH_ANSWER_ADDED = 7,
     MUNDZAVCH_ANSWER_READ_SUM = 8,      /* a read of a charge account; first: 0, for the base store; second: how many
                                            moves up that is; (int64_t)third: the base amount and the pending sums of
                                            the action and of every action above it */
     MUNDZAVCH_ANSWER_ENTERED = 9,
-    MUNDZAVCH_ANSWER_READY = 10,        /* first: how many then left the queue, the judged action too where it did */
-    MUNDZAVCH_ANSWER_JUDGED_FAILED = 11 /* a judge, and the action is aborted; first: how many then left the queue,
+    MUNDZAVCH_ANSWER_READY = 10,        /* first: how many then left the action's queue, itself too where it did */
+    MUNDZAVCH_ANSWER_JUDGED_FAILED = 11 /* a judge, and the action is aborted; first: how many then left its queue,
                                            which does not count it */
 };
 
 /* Makes a new table of the words, whatever they held. Returns 0, or 2 where `words` is not MUNDZAVCH_TABLE_WORDS. */
 uint64_t mundzavch_open(uint64_t *table, size_t words);
 
-/* The actions started, and the counter: 0 where a table is too short to have them. */
+/* The actions started, the topactions' counter and the subactions': 0 where a table is too short to have them. */
 uint64_t mundzavch_started(const uint64_t *table, size_t words);
-uint64_t mundzavch_counter(const uint64_t *table, size_t words);
+uint64_t mundzavch_top_counter(const uint64_t *table, size_t words);
+uint64_t mundzavch_sub_counter(const uint64_t *table, size_t words);
 
 /* One event. An event ignores the parts that it does not use. Returns the answer's kind; its numbers are in *first,
  * *second and *third. Refusals: 1 to 9 and 13 to 18. */

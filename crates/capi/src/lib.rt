@@ -2,6 +2,7 @@
 // pointer must be; the promises are those of the calls that these pass on to.
 ghost use mathlib.Core.Path.{_≡_};
 ghost use mathlib.Core.List.{[], _∷_};
+ghost use Rattle.rules.specs.Kind.{topKind, subKind};
 ghost use Rattle.rules.specs.Table.{started, counter};
 ghost use Rattle.rules.specs.Ledger.{ledgerOf};
 ghost use Rattle.rules.specs.Event.{eventOf};
@@ -35,12 +36,20 @@ pub extern "C" fn mundzavch_started(table: &[u64]) -> u64
     table::started(table)
 }
 
-// table::counter
+// table::top_counter
 #[no_mangle]
-pub extern "C" fn mundzavch_counter(table: &[u64]) -> u64
-    ensures { λ r. ⌜ r ≡ counter (now (table .entry)) ⌝ }
+pub extern "C" fn mundzavch_top_counter(table: &[u64]) -> u64
+    ensures { λ r. ⌜ r ≡ counter (now (table .entry)) topKind ⌝ }
 {
-    table::counter(table)
+    table::top_counter(table)
+}
+
+// table::sub_counter
+#[no_mangle]
+pub extern "C" fn mundzavch_sub_counter(table: &[u64]) -> u64
+    ensures { λ r. ⌜ r ≡ counter (now (table .entry)) subKind ⌝ }
+{
+    table::sub_counter(table)
 }
 
 // event::event: back comes the answer's kind, and its numbers in `first`, `second` and `third`.

@@ -1,13 +1,15 @@
--- RULES 13: the worked cases that are proved, in one list; proofs/Cases.antt proves all of them by one theorem.
--- Assumes nothing.
+-- RULES 13: the worked cases that are proved, in one list of four parts, each of which computes by itself; proofs/Cases.antt proves
+-- all of them by one theorem. Assumes nothing.
 use Prim.Native.Nat.{ℕ}
-use mathlib.Core.List.{List, [], _∷_, map}
+use mathlib.Core.Path.{_≡_}
+use mathlib.Core.List.{List, [], _∷_, _++_, map}
 use lib.ListN.{replicate}
 use lib.IntN.{ℤ, pos, negℤ}
 use Rattle.rules.specs.declared.Answer.{Answer}
 use Rattle.rules.specs.declared.Answer.the-variants.{Started, Read, ReadSum, Written, Added, Entered, Ready, JudgedFailed, Committed, Failed, Aborted, Refused}
 use Rattle.rules.specs.Card.{cardLength, baseLength, shadowLength, basePlace, cardAt}
 use Rattle.rules.specs.Amount.{withAmount}
+use Rattle.rules.specs.Kind.{topKind, subKind}
 use Rattle.rules.specs.Table.{newTable, started, counter}
 use Rattle.rules.specs.Event.{Event, eventOf, startUnder, readBy, writeBy, commitOf, abortOf, addBy, enterOf, judgeOf}
 use Rattle.rules.specs.Look.{look, bytesOf}
@@ -48,11 +50,12 @@ pub record Question : Type 0 where
   pub baseAccounts : List ℕ
   pub spots : List Spot
 
--- what it gives: every answer, the actions started, the counter, and the cards and looks asked for
+-- what it gives: every answer, the actions started, the two counters, and the cards and looks asked for
 pub record Result : Type 0 where
   pub answers : List Answer
   pub starts : ℕ
-  pub count : ℕ
+  pub tops : ℕ
+  pub subs : ℕ
   pub baseCards : List (List ℕ)
   pub looks : List Shown
 
@@ -62,7 +65,8 @@ resultOf q =
     record {
       answers = ran .answers;
       starts = started (ran .after .table);
-      count = counter (ran .after .table);
+      tops = counter (ran .after .table) topKind;
+      subs = counter (ran .after .table) subKind;
       baseCards = map (λ k. cardAt (ran .after .base) (basePlace k)) (q .baseAccounts);
       looks = map (shown (ran .after)) (q .spots);
     }
@@ -74,9 +78,9 @@ pub record Case : Type 0 where
 abbrev asking : List Event → List ℕ → List Spot → Question
 asking es ks spots = record { events = es; baseAccounts = ks; spots = spots }
 
-abbrev giving : List Answer → ℕ → ℕ → List (List ℕ) → List Shown → Result
-giving answers starts count baseCards looks =
-    record { answers = answers; starts = starts; count = count; baseCards = baseCards; looks = looks }
+abbrev giving : List Answer → ℕ → ℕ → ℕ → List (List ℕ) → List Shown → Result
+giving answers starts tops subs baseCards looks =
+    record { answers = answers; starts = starts; tops = tops; subs = subs; baseCards = baseCards; looks = looks }
 
 -- action n and account k as a spot
 abbrev at : ℕ → ℕ → Spot
@@ -99,53 +103,59 @@ taking n k cents = addBy n k (amountCard (negℤ (pos cents)))
 abbrev case : Question → Result → Case
 case q r = record { question = q; expected = r }
 
-unfoldable pub cases : List Case
-cases =
+-- the cases of this list hold
+abbrev pub Hold : List Case → Type 0
+Hold cases = map (λ c. resultOf (c .question)) cases ≡ map (λ c. c .expected) cases
+
+-- accounts with cards
+unfoldable pub casesTo14 : List Case
+casesTo14 =
     -- 1
-    case (asking [] [] []) (giving [] 0 0 [] [])
+    case (asking [] [] []) (giving [] 0 0 0 [] [])
     -- 2
     ∷ case
     (asking (startUnder 0 ∷ commitOf 1 ∷ []) [] [])
-    (giving (Started 1 ∷ Committed 0 ∷ []) 1 0 [] [])
+    (giving (Started 1 ∷ Committed 0 ∷ []) 1 0 0 [] [])
     -- 3
     ∷ case
     (asking (startUnder 0 ∷ writeBy 1 5 (filledWith 7) ∷ commitOf 1 ∷ []) (5 ∷ []) [])
-    (giving (Started 1 ∷ Written ∷ Committed 1 ∷ []) 1 1 (filledWith 7 ∷ []) [])
+    (giving (Started 1 ∷ Written ∷ Committed 1 ∷ []) 1 1 0 (filledWith 7 ∷ []) [])
     -- 4
     ∷ case
     (asking
     (startUnder 0 ∷ startUnder 0 ∷ readBy 1 0 ∷ readBy 2 0 ∷ writeBy 1 0 (filledWith 1) ∷ commitOf 1 ∷ commitOf 2 ∷ []) [] [])
     (giving
-    (Started 1 ∷ Started 2 ∷ Read 0 1 ∷ Read 0 1 ∷ Written ∷ Committed 1 ∷ Failed 1 0 ∷ []) 2 1 [] [])
+    (Started 1 ∷ Started 2 ∷ Read 0 1 ∷ Read 0 1 ∷ Written ∷ Committed 1 ∷ Failed 1 0 ∷ []) 2 1 0 [] [])
     -- 5
     ∷ case
     (asking
     (startUnder 0 ∷ startUnder 0 ∷ writeBy 1 0 (filledWith 1) ∷ writeBy 2 0 (filledWith 2) ∷ commitOf 1 ∷ commitOf 2 ∷ [])
     (0 ∷ []) [])
     (giving
-    (Started 1 ∷ Started 2 ∷ Written ∷ Written ∷ Committed 1 ∷ Committed 2 ∷ []) 2 2 (filledWith 2 ∷ []) [])
+    (Started 1 ∷ Started 2 ∷ Written ∷ Written ∷ Committed 1 ∷ Committed 2 ∷ []) 2 2 0 (filledWith 2 ∷ []) [])
     -- 6
     ∷ case
     (asking
-    (startUnder 0 ∷ writeBy 1 3 (filledWith 1) ∷ startUnder 1 ∷ readBy 2 3 ∷ writeBy 2 3 (filledWith 2) ∷ abortOf 2 ∷ readBy 1 3 ∷ [])
+    (startUnder 0 ∷ writeBy 1 3 (filledWith 1) ∷ startUnder 1 ∷ readBy 2 3 ∷ writeBy 2 3 (filledWith 2) ∷ abortOf 2
+    ∷ readBy 1 3 ∷ [])
     [] (at 1 3 ∷ []))
     (giving
-    (Started 1 ∷ Written ∷ Started 2 ∷ Read 1 1 ∷ Written ∷ Aborted 1 0 ∷ Read 1 0 ∷ []) 2 0 [] (showing 1 0 ∷ []))
+    (Started 1 ∷ Written ∷ Started 2 ∷ Read 1 1 ∷ Written ∷ Aborted 1 0 ∷ Read 1 0 ∷ []) 2 0 0 [] (showing 1 0 ∷ []))
     -- 7
     ∷ case
     (asking (startUnder 0 ∷ startUnder 1 ∷ readBy 1 0 ∷ commitOf 1 ∷ []) [] [])
-    (giving (Started 1 ∷ Started 2 ∷ Refused 9 ∷ Refused 9 ∷ []) 2 0 [] [])
+    (giving (Started 1 ∷ Started 2 ∷ Refused 9 ∷ Refused 9 ∷ []) 2 0 0 [] [])
     -- 8 and 8b
     ∷ case
     (asking
     (startUnder 0 ∷ startUnder 1 ∷ startUnder 1 ∷ readBy 3 4 ∷ writeBy 2 4 (filledWith 1) ∷ commitOf 2 ∷ commitOf 3 ∷ []) [] [])
     (giving
-    (Started 1 ∷ Started 2 ∷ Started 3 ∷ Read 0 2 ∷ Written ∷ Committed 1 ∷ Failed 1 4 ∷ []) 3 1 [] [])
+    (Started 1 ∷ Started 2 ∷ Started 3 ∷ Read 0 2 ∷ Written ∷ Committed 1 ∷ Failed 1 4 ∷ []) 3 0 1 [] [])
     ∷ case
     (asking
     (startUnder 0 ∷ startUnder 1 ∷ startUnder 1 ∷ writeBy 2 4 (filledWith 1) ∷ commitOf 2 ∷ readBy 3 4 ∷ commitOf 3 ∷ []) [] [])
     (giving
-    (Started 1 ∷ Started 2 ∷ Started 3 ∷ Written ∷ Committed 1 ∷ Read 1 1 ∷ Committed 0 ∷ []) 3 1 [] [])
+    (Started 1 ∷ Started 2 ∷ Started 3 ∷ Written ∷ Committed 1 ∷ Read 1 1 ∷ Committed 0 ∷ []) 3 0 1 [] [])
     -- 9
     ∷ case
     (asking
@@ -153,47 +163,54 @@ cases =
     ∷ commitOf 2 ∷ commitOf 4 ∷ commitOf 1 ∷ []) [] [])
     (giving
     (Started 1 ∷ Started 2 ∷ Read 0 2 ∷ Started 3 ∷ Written ∷ Committed 1 ∷ Started 4 ∷ Read 0 2
-    ∷ Committed 0 ∷ Committed 0 ∷ Failed 1 6 ∷ []) 4 1 [] [])
+    ∷ Committed 0 ∷ Committed 0 ∷ Failed 1 6 ∷ []) 4 1 0 [] [])
     -- 10
     ∷ case
     (asking (startUnder 0 ∷ startUnder 1 ∷ startUnder 2 ∷ abortOf 1 ∷ commitOf 2 ∷ []) [] [])
-    (giving (Started 1 ∷ Started 2 ∷ Started 3 ∷ Aborted 3 0 ∷ Refused 5 ∷ []) 3 0 [] [])
+    (giving (Started 1 ∷ Started 2 ∷ Started 3 ∷ Aborted 3 0 ∷ Refused 5 ∷ []) 3 0 0 [] [])
     -- 13
     ∷ case
     (asking
-    (startUnder 0 ∷ startUnder 0 ∷ writeBy 1 2 (filledWith 1) ∷ readBy 1 2 ∷ writeBy 2 2 (filledWith 2) ∷ commitOf 2 ∷ commitOf 1 ∷ [])
+    (startUnder 0 ∷ startUnder 0 ∷ writeBy 1 2 (filledWith 1) ∷ readBy 1 2 ∷ writeBy 2 2 (filledWith 2) ∷ commitOf 2
+    ∷ commitOf 1 ∷ [])
     (2 ∷ []) [])
     (giving
-    (Started 1 ∷ Started 2 ∷ Written ∷ Read 1 0 ∷ Written ∷ Committed 1 ∷ Committed 2 ∷ []) 2 2 (filledWith 1 ∷ []) [])
+    (Started 1 ∷ Started 2 ∷ Written ∷ Read 1 0 ∷ Written ∷ Committed 1 ∷ Committed 2 ∷ []) 2 2 0 (filledWith 1 ∷ []) [])
     -- 14
     ∷ case
     (asking
-    (startUnder 0 ∷ writeBy 1 7 (filledWith 1) ∷ startUnder 1 ∷ startUnder 2 ∷ readBy 3 7 ∷ readBy 3 8 ∷ writeBy 3 8 (filledWith 2)
+    (startUnder 0 ∷ writeBy 1 7 (filledWith 1) ∷ startUnder 1 ∷ startUnder 2 ∷ readBy 3 7 ∷ readBy 3 8
+    ∷ writeBy 3 8 (filledWith 2)
     ∷ readBy 3 8 ∷ commitOf 3 ∷ readBy 2 8 ∷ [])
     [] (at 2 7 ∷ at 2 8 ∷ at 2 9 ∷ at 1 7 ∷ []))
     (giving
     (Started 1 ∷ Written ∷ Started 2 ∷ Started 3 ∷ Read 1 2 ∷ Read 0 3 ∷ Written
-    ∷ Read 3 0 ∷ Committed 1 ∷ Read 2 0 ∷ []) 3 1 [] (showing 1 1 ∷ showing 2 0 ∷ showing 0 2 ∷ refusing 9 ∷ []))
+    ∷ Read 3 0 ∷ Committed 1 ∷ Read 2 0 ∷ []) 3 0 1 [] (showing 1 1 ∷ showing 2 0 ∷ showing 0 2 ∷ refusing 9 ∷ []))
+    ∷ []
+
+-- charge accounts, and which reads count
+unfoldable pub casesTo25 : List Case
+casesTo25 =
     -- 15
-    ∷ case
+    case
     (asking
     (startUnder 0 ∷ startUnder 0 ∷ adding 1 24 500 ∷ taking 2 24 200 ∷ commitOf 1 ∷ commitOf 2 ∷ startUnder 0 ∷ readBy 3 24
     ∷ commitOf 3 ∷ []) (24 ∷ []) [])
     (giving
     (Started 1 ∷ Started 2 ∷ Added ∷ Added ∷ Committed 1 ∷ Committed 2 ∷ Started 3 ∷ ReadSum 0 1 300
-    ∷ Committed 0 ∷ []) 3 2 (amountCard (pos 300) ∷ []) [])
+    ∷ Committed 0 ∷ []) 3 2 0 (amountCard (pos 300) ∷ []) [])
     -- 16
     ∷ case
     (asking
     (startUnder 0 ∷ startUnder 0 ∷ readBy 1 24 ∷ adding 1 24 5 ∷ adding 2 24 7 ∷ commitOf 2 ∷ commitOf 1 ∷ []) [] [])
     (giving
-    (Started 1 ∷ Started 2 ∷ ReadSum 0 1 0 ∷ Added ∷ Added ∷ Committed 1 ∷ Failed 1 24 ∷ []) 2 1 [] [])
+    (Started 1 ∷ Started 2 ∷ ReadSum 0 1 0 ∷ Added ∷ Added ∷ Committed 1 ∷ Failed 1 24 ∷ []) 2 1 0 [] [])
     -- 17
     ∷ case
     (asking
     (startUnder 0 ∷ startUnder 0 ∷ readBy 2 30 ∷ adding 1 30 0 ∷ commitOf 1 ∷ commitOf 2 ∷ []) [] [])
     (giving
-    (Started 1 ∷ Started 2 ∷ ReadSum 0 1 0 ∷ Added ∷ Committed 1 ∷ Failed 1 30 ∷ []) 2 1 [] [])
+    (Started 1 ∷ Started 2 ∷ ReadSum 0 1 0 ∷ Added ∷ Committed 1 ∷ Failed 1 30 ∷ []) 2 1 0 [] [])
     -- 18
     ∷ case
     (asking
@@ -201,7 +218,7 @@ cases =
     ∷ commitOf 2 ∷ readBy 1 24 ∷ commitOf 1 ∷ []) (24 ∷ []) [])
     (giving
     (Started 1 ∷ Added ∷ Started 2 ∷ Added ∷ ReadSum 0 2 70 ∷ Started 3 ∷ ReadSum 0 3 70 ∷ Committed 0
-    ∷ Committed 1 ∷ ReadSum 0 1 70 ∷ Committed 2 ∷ []) 3 2 (amountCard (pos 70) ∷ []) [])
+    ∷ Committed 1 ∷ ReadSum 0 1 70 ∷ Committed 1 ∷ []) 3 1 1 (amountCard (pos 70) ∷ []) [])
     -- 19
     ∷ case
     (asking
@@ -211,15 +228,16 @@ cases =
     (giving
     (Started 1 ∷ Started 2 ∷ Refused 13 ∷ Refused 14 ∷ Refused 9 ∷ Refused 7 ∷ Refused 13
     ∷ Refused 13 ∷ Refused 14 ∷ Refused 14 ∷ Added ∷ Added
-    ∷ Refused 3 ∷ Refused 9 ∷ []) 2 0 [] [])
+    ∷ Refused 3 ∷ Refused 9 ∷ []) 2 0 0 [] [])
     -- 20
     ∷ case
     (asking
-    (startUnder 0 ∷ startUnder 1 ∷ readBy 2 3 ∷ writeBy 2 3 (filledWith 1) ∷ commitOf 2 ∷ startUnder 0 ∷ writeBy 3 3 (filledWith 2)
+    (startUnder 0 ∷ startUnder 1 ∷ readBy 2 3 ∷ writeBy 2 3 (filledWith 1) ∷ commitOf 2 ∷ startUnder 0
+    ∷ writeBy 3 3 (filledWith 2)
     ∷ commitOf 3 ∷ commitOf 1 ∷ []) (3 ∷ []) [])
     (giving
     (Started 1 ∷ Started 2 ∷ Read 0 2 ∷ Written ∷ Committed 1 ∷ Started 3 ∷ Written
-    ∷ Committed 2 ∷ Failed 2 3 ∷ []) 3 2 (filledWith 2 ∷ []) [])
+    ∷ Committed 1 ∷ Failed 1 3 ∷ []) 3 1 1 (filledWith 2 ∷ []) [])
     -- 21
     ∷ case
     (asking
@@ -227,62 +245,69 @@ cases =
     ∷ writeBy 4 3 (filledWith 2) ∷ commitOf 4 ∷ commitOf 2 ∷ []) [] [])
     (giving
     (Started 1 ∷ Written ∷ Started 2 ∷ Started 3 ∷ Read 1 2 ∷ Committed 0 ∷ Started 4
-    ∷ Written ∷ Committed 1 ∷ Failed 1 3 ∷ []) 4 1 [] [])
+    ∷ Written ∷ Committed 1 ∷ Failed 1 3 ∷ []) 4 0 1 [] [])
     -- 22
     ∷ case
     (asking
     (startUnder 0 ∷ adding 1 24 5 ∷ readBy 1 24 ∷ startUnder 0 ∷ adding 2 24 3 ∷ commitOf 2 ∷ commitOf 1 ∷ []) (24 ∷ []) [])
     (giving
-    (Started 1 ∷ Added ∷ ReadSum 0 1 5 ∷ Started 2 ∷ Added ∷ Committed 1 ∷ Failed 1 24 ∷ []) 2 1 (amountCard (pos 3) ∷ []) [])
+    (Started 1 ∷ Added ∷ ReadSum 0 1 5 ∷ Started 2 ∷ Added ∷ Committed 1 ∷ Failed 1 24 ∷ []) 2 1 0 (amountCard (pos 3) ∷ []) [])
     -- 23
     ∷ case
     (asking
     (startUnder 0 ∷ startUnder 0 ∷ readBy 1 3 ∷ writeBy 1 3 (filledWith 1) ∷ readBy 1 3 ∷ writeBy 2 3 (filledWith 2) ∷ commitOf 2
     ∷ commitOf 1 ∷ []) [] [])
     (giving
-    (Started 1 ∷ Started 2 ∷ Read 0 1 ∷ Written ∷ Read 1 0 ∷ Written ∷ Committed 1 ∷ Failed 1 3 ∷ []) 2 1 [] [])
+    (Started 1 ∷ Started 2 ∷ Read 0 1 ∷ Written ∷ Read 1 0 ∷ Written ∷ Committed 1 ∷ Failed 1 3 ∷ []) 2 1 0 [] [])
     -- 24
     ∷ case
     (asking
-    (startUnder 0 ∷ writeBy 1 3 (filledWith 1) ∷ startUnder 1 ∷ readBy 2 3 ∷ commitOf 2 ∷ startUnder 0 ∷ writeBy 3 3 (filledWith 2)
+    (startUnder 0 ∷ writeBy 1 3 (filledWith 1) ∷ startUnder 1 ∷ readBy 2 3 ∷ commitOf 2 ∷ startUnder 0
+    ∷ writeBy 3 3 (filledWith 2)
     ∷ commitOf 3 ∷ commitOf 1 ∷ []) (3 ∷ []) [])
     (giving
     (Started 1 ∷ Written ∷ Started 2 ∷ Read 1 1 ∷ Committed 0 ∷ Started 3 ∷ Written
-    ∷ Committed 1 ∷ Committed 2 ∷ []) 3 2 (filledWith 1 ∷ []) [])
+    ∷ Committed 1 ∷ Committed 2 ∷ []) 3 2 0 (filledWith 1 ∷ []) [])
     -- 25
     ∷ case
     (asking
-    (startUnder 0 ∷ writeBy 1 3 (filledWith 1) ∷ startUnder 1 ∷ startUnder 1 ∷ readBy 2 3 ∷ writeBy 3 3 (filledWith 2) ∷ commitOf 3
+    (startUnder 0 ∷ writeBy 1 3 (filledWith 1) ∷ startUnder 1 ∷ startUnder 1 ∷ readBy 2 3 ∷ writeBy 3 3 (filledWith 2)
+    ∷ commitOf 3
     ∷ commitOf 2 ∷ []) [] [])
     (giving
-    (Started 1 ∷ Written ∷ Started 2 ∷ Started 3 ∷ Read 1 1 ∷ Written ∷ Committed 1 ∷ Failed 1 3 ∷ []) 3 1 [] [])
+    (Started 1 ∷ Written ∷ Started 2 ∷ Started 3 ∷ Read 1 1 ∷ Written ∷ Committed 1 ∷ Failed 1 3 ∷ []) 3 0 1 [] [])
+    ∷ []
+
+-- a queue
+unfoldable pub casesTo30 : List Case
+casesTo30 =
     -- 26
-    ∷ case
+    case
     (asking
     (startUnder 0 ∷ startUnder 0 ∷ writeBy 1 5 (filledWith 7) ∷ writeBy 2 5 (filledWith 8) ∷ enterOf 1 ∷ enterOf 2 ∷ judgeOf 2
     ∷ judgeOf 1 ∷ []) (5 ∷ []) [])
     (giving
-    (Started 1 ∷ Started 2 ∷ Written ∷ Written ∷ Entered ∷ Entered ∷ Ready 0 ∷ Ready 2 ∷ []) 2 2 (filledWith 8 ∷ []) [])
+    (Started 1 ∷ Started 2 ∷ Written ∷ Written ∷ Entered ∷ Entered ∷ Ready 0 ∷ Ready 2 ∷ []) 2 2 0 (filledWith 8 ∷ []) [])
     -- 27
     ∷ case
     (asking
     (startUnder 0 ∷ startUnder 0 ∷ readBy 2 0 ∷ writeBy 1 0 (filledWith 1) ∷ enterOf 1 ∷ enterOf 2 ∷ judgeOf 1 ∷ judgeOf 2 ∷ [])
     [] [])
     (giving
-    (Started 1 ∷ Started 2 ∷ Read 0 1 ∷ Written ∷ Entered ∷ Entered ∷ Ready 1 ∷ JudgedFailed 0 ∷ []) 2 1 [] [])
+    (Started 1 ∷ Started 2 ∷ Read 0 1 ∷ Written ∷ Entered ∷ Entered ∷ Ready 1 ∷ JudgedFailed 0 ∷ []) 2 1 0 [] [])
     -- 28
     ∷ case
     (asking
     (startUnder 0 ∷ startUnder 0 ∷ readBy 2 0 ∷ writeBy 1 0 (filledWith 1) ∷ enterOf 1 ∷ enterOf 2 ∷ abortOf 1 ∷ judgeOf 2 ∷ [])
     [] [])
     (giving
-    (Started 1 ∷ Started 2 ∷ Read 0 1 ∷ Written ∷ Entered ∷ Entered ∷ Aborted 1 0 ∷ JudgedFailed 0 ∷ []) 2 0 [] [])
+    (Started 1 ∷ Started 2 ∷ Read 0 1 ∷ Written ∷ Entered ∷ Entered ∷ Aborted 1 0 ∷ JudgedFailed 0 ∷ []) 2 0 0 [] [])
     -- 29
     ∷ case
     (asking
     (startUnder 0 ∷ startUnder 0 ∷ writeBy 2 1 (filledWith 1) ∷ enterOf 1 ∷ enterOf 2 ∷ judgeOf 2 ∷ abortOf 1 ∷ []) (1 ∷ []) [])
     (giving
-    (Started 1 ∷ Started 2 ∷ Written ∷ Entered ∷ Entered ∷ Ready 0 ∷ Aborted 1 1 ∷ []) 2 1 (filledWith 1 ∷ []) [])
+    (Started 1 ∷ Started 2 ∷ Written ∷ Entered ∷ Entered ∷ Ready 0 ∷ Aborted 1 1 ∷ []) 2 1 0 (filledWith 1 ∷ []) [])
     -- 30
     ∷ case
     (asking
@@ -290,5 +315,67 @@ cases =
     ∷ judgeOf 1 ∷ commitOf 2 ∷ []) [] [])
     (giving
     (Started 1 ∷ Started 2 ∷ Entered ∷ Refused 16 ∷ Refused 16 ∷ Refused 16 ∷ Refused 18 ∷ Refused 17 ∷ Ready 1
-    ∷ Refused 5 ∷ Committed 0 ∷ []) 2 0 [] [])
+    ∷ Refused 5 ∷ Committed 0 ∷ []) 2 0 0 [] [])
     ∷ []
+
+-- the two kinds of action side by side
+unfoldable pub casesTo37 : List Case
+casesTo37 =
+    -- 31
+    case
+    (asking
+    (startUnder 0 ∷ startUnder 0 ∷ startUnder 2 ∷ writeBy 1 5 (filledWith 7) ∷ enterOf 1 ∷ writeBy 3 4 (filledWith 9) ∷ enterOf 3
+    ∷ judgeOf 3 ∷ enterOf 2 ∷ judgeOf 2 ∷ judgeOf 1 ∷ []) (5 ∷ 4 ∷ []) [])
+    (giving
+    (Started 1 ∷ Started 2 ∷ Started 3 ∷ Written ∷ Entered ∷ Written ∷ Entered
+    ∷ Ready 1 ∷ Entered ∷ Ready 0 ∷ Ready 2 ∷ []) 3 2 1 (filledWith 7 ∷ filledWith 9 ∷ []) [])
+    -- 32
+    ∷ case
+    (asking
+    (startUnder 0 ∷ startUnder 1 ∷ writeBy 2 0 (filledWith 1) ∷ commitOf 2 ∷ startUnder 1 ∷ writeBy 3 0 (filledWith 2)
+    ∷ commitOf 3
+    ∷ startUnder 0 ∷ readBy 4 1 ∷ startUnder 0 ∷ writeBy 5 1 (filledWith 3) ∷ commitOf 5 ∷ commitOf 4 ∷ []) [] [])
+    (giving
+    (Started 1 ∷ Started 2 ∷ Written ∷ Committed 1 ∷ Started 3 ∷ Written ∷ Committed 2
+    ∷ Started 4 ∷ Read 0 1 ∷ Started 5 ∷ Written ∷ Committed 1 ∷ Failed 1 1 ∷ []) 5 1 2 [] [])
+    -- 33
+    ∷ case
+    (asking
+    (startUnder 0 ∷ writeBy 1 9 (filledWith 1) ∷ commitOf 1 ∷ startUnder 0 ∷ startUnder 2 ∷ startUnder 2 ∷ readBy 4 0
+    ∷ writeBy 3 0 (filledWith 2) ∷ commitOf 3 ∷ commitOf 4 ∷ []) [] [])
+    (giving
+    (Started 1 ∷ Written ∷ Committed 1 ∷ Started 2 ∷ Started 3 ∷ Started 4 ∷ Read 0 2
+    ∷ Written ∷ Committed 1 ∷ Failed 1 0 ∷ []) 4 1 1 [] [])
+    -- 34
+    ∷ case
+    (asking
+    (startUnder 0 ∷ startUnder 1 ∷ startUnder 2 ∷ readBy 3 0 ∷ startUnder 1 ∷ writeBy 4 0 (filledWith 1) ∷ commitOf 4
+    ∷ startUnder 0 ∷ writeBy 5 1 (filledWith 2) ∷ commitOf 5 ∷ commitOf 3 ∷ commitOf 2 ∷ []) [] [])
+    (giving
+    (Started 1 ∷ Started 2 ∷ Started 3 ∷ Read 0 3 ∷ Started 4 ∷ Written ∷ Committed 1
+    ∷ Started 5 ∷ Written ∷ Committed 1 ∷ Committed 0 ∷ Failed 1 0 ∷ []) 5 1 1 [] [])
+    -- 35
+    ∷ case
+    (asking
+    (startUnder 0 ∷ startUnder 0 ∷ startUnder 0 ∷ startUnder 3 ∷ startUnder 3 ∷ writeBy 2 1 (filledWith 1)
+    ∷ writeBy 5 2 (filledWith 1)
+    ∷ enterOf 1 ∷ enterOf 2 ∷ enterOf 4 ∷ enterOf 5 ∷ judgeOf 2 ∷ judgeOf 5 ∷ abortOf 4 ∷ abortOf 1 ∷ []) [] [])
+    (giving
+    (Started 1 ∷ Started 2 ∷ Started 3 ∷ Started 4 ∷ Started 5 ∷ Written ∷ Written
+    ∷ Entered ∷ Entered ∷ Entered ∷ Entered ∷ Ready 0 ∷ Ready 0 ∷ Aborted 1 1 ∷ Aborted 1 1 ∷ []) 5 1 1 [] [])
+    -- 36
+    ∷ case
+    (asking (startUnder 0 ∷ startUnder 0 ∷ startUnder 2 ∷ enterOf 1 ∷ commitOf 3 ∷ commitOf 2 ∷ []) [] [])
+    (giving (Started 1 ∷ Started 2 ∷ Started 3 ∷ Entered ∷ Committed 0 ∷ Refused 18 ∷ []) 3 0 0 [] [])
+    -- 37
+    ∷ case
+    (asking
+    (startUnder 0 ∷ startUnder 1 ∷ startUnder 2 ∷ readBy 3 6 ∷ startUnder 1 ∷ writeBy 4 6 (filledWith 1) ∷ commitOf 4
+    ∷ startUnder 2 ∷ readBy 5 6 ∷ commitOf 3 ∷ commitOf 5 ∷ commitOf 2 ∷ []) [] [])
+    (giving
+    (Started 1 ∷ Started 2 ∷ Started 3 ∷ Read 0 3 ∷ Started 4 ∷ Written ∷ Committed 1
+    ∷ Started 5 ∷ Read 1 2 ∷ Committed 0 ∷ Committed 0 ∷ Failed 1 6 ∷ []) 5 0 1 [] [])
+    ∷ []
+
+unfoldable pub cases : List Case
+cases = casesTo14 ++ casesTo25 ++ casesTo30 ++ casesTo37

@@ -1,5 +1,6 @@
 -- One list worked through as a serial run: a child that commits stands at its commit, one that gives up is nowhere; what was
--- added is seen by who adds and settled at the end, where the topaction commits by leaving the queue. proofs/Cases.antt computes it. Assumes nothing.
+-- added is seen by who adds and settled at the end, where the topaction commits by leaving its queue. proofs/Cases.antt computes
+-- it. Assumes nothing.
 use Prim.Native.Nat.{ℕ}
 use mathlib.Core.Option.{none, some}
 use mathlib.Core.List.{List, [], _∷_}
@@ -8,7 +9,7 @@ use Rattle.rules.specs.Card.{basePlace, cardAt}
 use Rattle.rules.specs.Event.{Event, startUnder, readBy, writeBy, commitOf, abortOf, enterOf, judgeOf}
 use Rattle.rules.specs.Run.{run}
 use Rattle.cases.specs.Case.{opening, filledWith, amountCard, adding, taking}
-use Rattle.rules.specs.Serial.Told.{toldAll}
+use Rattle.rules.specs.Serial.Told.{Told, itBegan, itRead, itWrote, itAdded, itCommitted, itLetLeave, itDidNothing, toldAll}
 use Rattle.rules.specs.Serial.Machine.{Given, serial}
 
 unfoldable pub example : List Event
@@ -28,11 +29,23 @@ example =
     ∷ writeBy 3 0 (filledWith 9)
     ∷ adding 3 24 9
     ∷ abortOf 3
-    -- 1 reads both again, waits to be judged, and commits as it leaves the queue
+    -- 1 reads both again, waits to be judged, and commits as it leaves its queue
     ∷ readBy 1 0
     ∷ readBy 1 24
     ∷ enterOf 1
     ∷ judgeOf 1
+    ∷ []
+
+-- what the serial run is told of it, and what that is, event by event
+unfoldable pub exampleTold : List Told
+exampleTold = let ran = run opening example in toldAll (ran .answers) (ran .leavers)
+
+unfoldable pub toldExpected : List Told
+toldExpected =
+    itBegan 1 ∷ itRead ∷ itAdded
+    ∷ itBegan 2 ∷ itWrote ∷ itAdded ∷ itRead ∷ itCommitted
+    ∷ itBegan 3 ∷ itWrote ∷ itAdded ∷ itLetLeave []
+    ∷ itRead ∷ itRead ∷ itDidNothing ∷ itLetLeave (1 ∷ [])
     ∷ []
 
 -- what the serial run gives its reads, and the cards of accounts 0 and 24 that it leaves
@@ -41,11 +54,14 @@ pub record Serially : Type 0 where
   pub left : List ℕ
   pub charged : List ℕ
 
-unfoldable pub exampleRun : Serially
-exampleRun =
-    let ran = run opening example in
-    let m = serial example (toldAll (ran .answers) (ran .leavers)) (opening .base) in
+-- by what it is told
+unfoldable pub seriallyTold : List Told → Serially
+seriallyTold told =
+    let m = serial example told (opening .base) in
     record { given = m .given; left = cardAt (m .base) (basePlace 0); charged = cardAt (m .base) (basePlace 24) }
+
+unfoldable pub exampleRun : Serially
+exampleRun = seriallyTold exampleTold
 
 -- the reads at places 1, 6, 12 and 13
 unfoldable pub exampleExpected : Serially

@@ -11,7 +11,7 @@ use Rattle.cases.specs.Case.{opening}
 
 unfoldable pub nested : List Event
 nested =
-    -- 1 commits at the end; 2 under it commits by leaving the queue, after 3 under 2 has committed
+    -- 1 commits at the end; 2 under it commits by leaving its queue, after 3 under 2 has committed
     startUnder 0
     ∷ startUnder 1
     ∷ startUnder 2

@@ -172,10 +172,10 @@ module _ (w : List ℕ) (e : Event) (account : e .account < accountCount) where
   card-passed none =
       account-known ∙ front-passed ofCard ofBusy (card-causes-numbered (e .code) (e .account) (e .card)) none
 
--- of a commit those of a busy action are asked first, and then that of the queue
+-- of a commit those of a busy action are asked first, and then that of its queue
 module _ (w : List ℕ) (n : ℕ) where
   abbrev ofQueue : List Cause
-  ofQueue = record { number = queueCause; applies = isOvertaking w true } ∷ []
+  ofQueue = record { number = queueCause; applies = isOvertaking w true n } ∷ []
 
   pub busy-refused : firstCause (busyCauses w n) ≢ 0 → firstCause (commitCauses w n) ≡ firstCause (busyCauses w n)
   unfolding commitCauses

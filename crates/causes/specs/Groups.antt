@@ -6,14 +6,14 @@ use mathlib.Core.List.{List, [], _∷_, _++_}
 use lib.Dec.{eqb}
 use Rattle.rules.specs.Card.{isCharge}
 use Rattle.rules.specs.Event.{Event, writeCode, addCode, isCommit, isAbort, isEnter, isJudge}
-use Rattle.rules.specs.Cause.{Cause, notLiveCause, isNotLive, tableFullCause, isTableFull, accountCause, isAccountUnknown, cardLengthCause, isCardLengthWrong, kindCause, amountCause, isAmountTooLarge, childLiveCause, isChildLive, queuedCause, isWaiting, judgeCause, isJudgeVain, queueCause, isOvertaking}
+use Rattle.rules.specs.Cause.{Cause, notLiveCause, isNotLive, tableFullCause, isTableFull, accountCause, isAccountUnknown, cardLengthCause, isCardLengthWrong, kindCause, amountCause, isAmountTooLarge, childLiveCause, isChildLive, queuedCause, isQueuedAlready, judgeCause, isJudgeVain, queueCause, isOvertaking}
 
 -- of a start under a number that is known
 unfoldable pub startCauses : List ℕ → ℕ → List Cause
 startCauses w n =
     record { number = notLiveCause; applies = isNotLive w n }
     ∷ record { number = tableFullCause; applies = isTableFull w true }
-    ∷ record { number = queuedCause; applies = isWaiting w true n }
+    ∷ record { number = queuedCause; applies = isQueuedAlready w true n }
     ∷ []
 
 -- of a write and of an add, from account and card
@@ -39,7 +39,7 @@ cardCauses code account card =
 unfoldable pub busyCauses : List ℕ → ℕ → List Cause
 busyCauses w n =
     record { number = childLiveCause; applies = isChildLive w true n }
-    ∷ record { number = queuedCause; applies = isWaiting w true n }
+    ∷ record { number = queuedCause; applies = isQueuedAlready w true n }
     ∷ []
 
 -- of a read, a write and an add
@@ -51,7 +51,7 @@ accountCauses w e =
 
 -- of a commit
 unfoldable pub commitCauses : List ℕ → ℕ → List Cause
-commitCauses w n = busyCauses w n ++ (record { number = queueCause; applies = isOvertaking w true } ∷ [])
+commitCauses w n = busyCauses w n ++ (record { number = queueCause; applies = isOvertaking w true n } ∷ [])
 
 -- of a judge
 unfoldable pub judgeCauses : List ℕ → ℕ → List Cause

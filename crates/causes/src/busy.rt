@@ -1,23 +1,24 @@
-// Causes 9 and 16 to 18: a live child, and the queue.
+// Causes 9 and 16 to 18: a live child, and the queues.
 ghost use mathlib.Core.Path.{_≡_};
 ghost use mathlib.Core.Bool.{cond};
-ghost use Rattle.rules.specs.Queue.{theQueue, isQueued};
-ghost use Rattle.rules.specs.Sound.{Sound};
+ghost use Rattle.rules.specs.Queue.{isWaiting};
+ghost use Rattle.rules.specs.Sound.{IsStarted, Sound};
 ghost use Rattle.rules.specs.Cause.{firstCause, queuedCause};
 ghost use Rattle.causes.specs.Groups.{busyCauses, commitCauses, judgeCauses};
 use ancestry::children::has_live_child;
 use queue::find::is_queued;
 use queue::find::is_queued_ready;
+use queue::find::is_waiting;
 use rows::entries::queue_length;
+use rows::fields::kind_of;
 use rules::cause;
 use rules::queue::FIRST_POSITION;
-use rules::queue::THE_QUEUE;
 
 pub(crate) fn queued_cause(table: &[u64], number: u64) -> u64
     requires { ⌜ Sound (now table) ⌝ }
-    ensures { λ r. ⌜ r ≡ cond (isQueued (now (table .entry)) theQueue number) queuedCause 0 ⌝ }
+    ensures { λ r. ⌜ r ≡ cond (isWaiting (now (table .entry)) number) queuedCause 0 ⌝ }
 {
-    if is_queued(table, THE_QUEUE, number) {
+    if is_waiting(table, number) {
         cause::QUEUED
     } else {
         cause::NONE
@@ -35,30 +36,33 @@ pub(crate) fn busy_cause(table: &[u64], number: u64) -> u64
     queued_cause(table, number)
 }
 
-// Causes 9, 16 and 18.
+// Causes 9, 16 and 18, which asks of the queue of the action's kind.
 pub(crate) fn commit_cause(table: &[u64], number: u64) -> u64
     requires { ⌜ Sound (now table) ⌝ }
+    requires { ⌜ IsStarted (now table) number ⌝ }
     ensures { λ r. ⌜ r ≡ firstCause (commitCauses (now (table .entry)) number) ⌝ }
 {
     let busy = busy_cause(table, number);
     if busy != cause::NONE {
         return busy;
     }
-    if FIRST_POSITION <= queue_length(table, THE_QUEUE) {
+    if FIRST_POSITION <= queue_length(table, kind_of(table, number)) {
         return cause::QUEUE;
     }
     cause::NONE
 }
 
-// Cause 17.
+// Cause 17, which asks of the same queue.
 pub(crate) fn judge_cause(table: &[u64], number: u64) -> u64
     requires { ⌜ Sound (now table) ⌝ }
+    requires { ⌜ IsStarted (now table) number ⌝ }
     ensures { λ r. ⌜ r ≡ firstCause (judgeCauses (now (table .entry)) number) ⌝ }
 {
-    if !is_queued(table, THE_QUEUE, number) {
+    let h = kind_of(table, number);
+    if !is_queued(table, h, number) {
         return cause::JUDGE;
     }
-    if is_queued_ready(table, THE_QUEUE, number) {
+    if is_queued_ready(table, h, number) {
         cause::JUDGE
     } else {
         cause::NONE

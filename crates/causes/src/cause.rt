@@ -2,7 +2,7 @@
 ghost use mathlib.Core.Path.{_≡_};
 ghost use Prim.Native.Nat.{_≤_};
 ghost use Rattle.rules.specs.Table.{started};
-ghost use Rattle.rules.specs.Sound.{Sound};
+ghost use Rattle.rules.specs.Sound.{IsStarted, Sound};
 ghost use Rattle.rules.specs.Event.{eventOf};
 ghost use Rattle.rules.specs.Cause.{firstCause, storeCauses, earlyCauses};
 ghost use Rattle.causes.specs.Groups.{startCauses, kindCauses, accountCauses, cardCauses, writeCauses, addCauses};
@@ -88,6 +88,7 @@ fn start_cause(table: &[u64], number: u64) -> u64
 // The causes from 7 on, of an event that is no start, by an action that is live.
 fn kind_cause(table: &[u64], code: u64, number: u64, account: u64, card: &[u8]) -> u64
     requires { ⌜ Sound (now table) ⌝ }
+    requires { ⌜ IsStarted (now table) number ⌝ }
     ensures { λ r. ⌜ r ≡ firstCause (kindCauses (now (table .entry)) (eventOf code number account (now (card .entry)))) ⌝ }
 {
     if code == event::ABORT {

@@ -24,7 +24,3 @@ SumFits w base n p k = IsCharge k → hasWritten w n k ≡ true → MakesAmount 
 -- RULES 8.4: the same of every account
 abbrev pub SumsFit : List ℕ → List ℕ → ℕ → ℕ → Type 0
 SumsFit w base n p = (k : ℕ) → SumFits w base n p k
-
--- RULES 4.5: a count that a word has room to raise
-abbrev pub CanCount : ℕ → Type 0
-CanCount count = count ≤ mostActions

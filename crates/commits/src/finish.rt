@@ -1,4 +1,4 @@
-// The end of an action that has left the queue: it commits or, where a sum is no amount, it is aborted.
+// The end of an action that has left its queue: it commits or, where a sum is no amount, it is aborted.
 ghost use mathlib.Core.Path.{_≡_};
 ghost use Rattle.rules.specs.Card.{StoresFit};
 ghost use Rattle.rules.specs.Ledger.{ledgerOf};

@@ -1,4 +1,4 @@
-// The commit of an action: judged, and passed or failed; and the end of one that has left the queue.
+// The commit of an action: judged, and passed or failed; and the end of one that has left its queue.
 pub mod commit;
 mod copy;
 mod end;

@@ -13,6 +13,7 @@ use lib.Dec.{eqb}
 use lib.ListN.{length, take, drop, replicate, length-append, length-drop, length-replicate}
 use lib.Seq.{take-all}
 use Rattle.rules.specs.Card.{baseLength}
+use Rattle.rules.specs.Kind.{topKind, subKind}
 use Rattle.rules.specs.Table.{tableLength, newTable, started, counter}
 use Rattle.rules.specs.Cause.{isStoreLengthWrong}
 use Rattle.rules.specs.Event.{Event}
@@ -29,7 +30,7 @@ use Rattle.lists.proofs.ListRun.{no-list-cause}
 use Rattle.dayread.specs.File.{eventCount, eventBytes, eventsPlace}
 use Rattle.dayread.specs.Opening.{openingBase}
 use Rattle.dayfile.specs.Day.{dayCause, Accepts, HasAnswerRoom, dayRun, dayWords, dayLedger, dayLines, listing, Day, dayOf, runDay}
-use Rattle.listing.specs.Listing.{endLine, refusedLine}
+use Rattle.listing.specs.Listing.{lastLine, refusedLine}
 use Rattle.listing.specs.Buffer.{listingLength, putAt, listingOf}
 use Rattle.listing.proofs.Texts.{putAt-length}
 use Rattle.listing.proofs.Bounds.{listing-fits, refused-fits}
@@ -135,14 +136,15 @@ pub day-lines :
 unfolding dayWords dayLines listingOf
 day-lines s file buffer a isWords isCount isTable =
     rw (isWords, isCount ∙ sym (answers-length s file a), isTable)
-    (ap (λ (lines : List ℕ). lines ++ endLine (started (now .table)) (counter (now .table))) (lines-of-answers (dayRun (s .shadow) file .answers) _))
+    (ap (λ (lines : List ℕ). lines ++ lastLine (now .table)) (lines-of-answers (dayRun (s .shadow) file .answers) _))
   where
     now : Ledger
     now = dayRun (s .shadow) file .after
 
 lines-bound : (words table : List ℕ) (count : ℕ) → count ≤ mostEvents → length (listingOf words count table) ≤ listingLength
 unfolding listingOf
-lines-bound words table count few = rw length-append (listing-fits words count (started table) (counter table) few)
+lines-bound words table count few =
+    rw length-append (listing-fits words count (started table) (counter table topKind) (counter table subKind) few)
 
 listing-bound : (s : Ledger) (file : List ℕ) → length (listing s file) ≤ listingLength
 listing-bound s file = go (ℕ-discrete (dayCause s file) 0)

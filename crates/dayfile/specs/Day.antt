@@ -6,14 +6,14 @@ use mathlib.Core.List.{List, _++_}
 use lib.Dec.{eqb}
 use lib.ListN.{length, drop}
 use Rattle.rules.specs.Card.{baseLength, shadowLength}
-use Rattle.rules.specs.Table.{tableLength, newTable, started, counter}
+use Rattle.rules.specs.Table.{tableLength, newTable}
 use Rattle.rules.specs.Ledger.{Ledger, ledgerOf}
 use Rattle.rules.specs.Encoding.{mostEvents, answerLength, eventsIn, wordsOfAll}
 use Rattle.rules.specs.Cause.{storeLengthCause, isStoreLengthWrong, unsoundCause}
 use Rattle.rules.specs.Run.{Ran, run}
 use Rattle.dayread.specs.File.{eventBytes, fileFault}
 use Rattle.dayread.specs.Opening.{openingBase}
-use Rattle.listing.specs.Listing.{answerLines, endLine, refusedLine}
+use Rattle.listing.specs.Listing.{answerLines, lastLine, refusedLine}
 use Rattle.listing.specs.Buffer.{putAt}
 
 -- why a day isn't run, 0 where it is
@@ -52,7 +52,7 @@ dayLedger s file = cond (eqb (dayCause s file) 0) (dayRun (s .shadow) file .afte
 unfoldable pub dayLines : List ℕ → List ℕ → List ℕ
 dayLines shadow file =
     let ran = dayRun shadow file in
-    answerLines 1 (ran .answers) ++ endLine (started (ran .after .table)) (counter (ran .after .table))
+    answerLines 1 (ran .answers) ++ lastLine (ran .after .table)
 
 -- the listing of a day
 unfoldable pub listing : Ledger → List ℕ → List ℕ

@@ -17,6 +17,8 @@ fn main() {
     print_day(b"case-04.day");
     print_day(b"case-11.day");
     print_day(b"case-14.day");
+    print_day(b"case-31.day");
+    print_day(b"case-35.day");
     print_day(b"fault-empty.day");
     print_day(b"fault-33-cards.day");
     print_day(b"fault-cards-cut.day");
@@ -47,6 +49,9 @@ fn main() {
     print_day(b"queue-verdicts.day");
     print_day(b"queue-busy.day");
     print_day(b"queue-edge.day");
+    print_day(b"two-queues-1.day");
+    print_day(b"two-queues-2.day");
+    print_day(b"two-queues-edge.day");
     print_day(b"no-events.day");
     print_day(b"nothing.day");
     print_day(b"mixed-1.day");

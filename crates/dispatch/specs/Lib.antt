@@ -1,2 +1,2 @@
--- The events that the queue's rules carry out.
+-- The events that the queues' rules carry out.
 pub mod Turn

@@ -1,10 +1,11 @@
--- RULES 2.6, 2.11 and 2.12: the events after which the queue may have changed, by the code. Assumes nothing.
+-- RULES 2.6, 2.11 and 2.12: the events after which a queue may have changed, by the code. Assumes nothing.
 use Prim.Native.Nat.{ℕ}
 use mathlib.Core.Path.{_≡_}
 use mathlib.Core.Bool.{true, false, cond}
 use mathlib.Core.List.{List}
 use lib.Dec.{eqb}
-use Rattle.rules.specs.Queue.{theQueue, isQueued}
+use Rattle.rules.specs.Table.{kindOf}
+use Rattle.rules.specs.Queue.{isQueued, isWaiting}
 use Rattle.rules.specs.Sound.{MayWait}
 use Rattle.rules.specs.Event.{enterCode, judgeCode}
 use Rattle.rules.specs.Ledger.{Ledger}
@@ -16,5 +17,5 @@ turn s code n = cond (eqb code enterCode) (enter s n) (cond (eqb code judgeCode)
 
 -- n may take it: who enters may wait and doesn't, who is judged does
 pub record MayTurn (w : List ℕ) (code n : ℕ) : Type 0 where
-  pub enters : code ≡ enterCode → MayWait w n × (isQueued w theQueue n ≡ false)
-  pub judges : code ≡ judgeCode → isQueued w theQueue n ≡ true
+  pub enters : code ≡ enterCode → MayWait w (kindOf w n) n × (isWaiting w n ≡ false)
+  pub judges : code ≡ judgeCode → isQueued w (kindOf w n) n ≡ true

@@ -6,28 +6,25 @@ ghost use Rattle.ancestry.specs.Ancestry.{Readable};
 ghost use Rattle.events.specs.Sums.{readSays, readLeaves};
 use ancestry::charge::seen_by;
 use ancestry::walk::nearest;
-use rows::fields::counter;
 use rows::fields::has_card;
-use rows::fields::read_entry;
-use rows::fields::set_read_entry;
+use rows::fields::has_read;
+use rows::times::set_read_now;
 use rules::Answer;
 use rules::cause::SUM;
 use rules::store::FIRST_CHARGE;
-use rules::table::NO_ENTRY;
 use rules::table::STORE;
 
-// The account enters the read set. A time that is there stays, and a read of the action's own card isn't entered.
+// The account enters the read set. Times that are there stay, and a read of the action's own card isn't entered.
 fn enter(table: &mut [u64], n: u64, k: u64)
     requires { ⌜ Readable (now table) n k ⌝ }
     ensures { λ r. ⌜ now (table .exit) ≡ readTable (now (table .entry)) n k ⌝ }
 {
-    let entry = read_entry(table, n, k);
+    let read = has_read(table, n, k);
     let own = has_card(table, n, k);
-    if entry != NO_ENTRY || own {
+    if read || own {
         return;
     }
-    let time = counter(table);
-    set_read_entry(table, n, k, time + 1);
+    set_read_now(table, n, k);
 }
 
 // Refused where the action sees a sum that is no amount.

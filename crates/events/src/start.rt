@@ -6,14 +6,13 @@ ghost use Rattle.rules.specs.Step.{startTable};
 ghost use Rattle.rows.specs.Row.{Scannable};
 ghost use Rattle.events.specs.Asked.{HasFreeNumber};
 use rows::fields::last_start;
-use rows::fields::set_end_time;
 use rows::fields::set_last_start;
 use rows::fields::set_parent;
 use rows::fields::set_state;
 use rows::sets::clear_own_adds;
 use rows::sets::clear_sets;
+use rows::times::clear_end;
 use rules::table::LIVE;
-use rules::table::NO_END;
 
 // The number of the new action. Every field of its row is set, whatever stood there.
 pub fn start(table: &mut [u64], p: u64) -> u64
@@ -26,7 +25,7 @@ pub fn start(table: &mut [u64], p: u64) -> u64
     set_last_start(table, n);
     set_parent(table, n, p);
     set_state(table, n, LIVE);
-    set_end_time(table, n, NO_END);
+    clear_end(table, n);
     clear_own_adds(table, n);
     clear_sets(table, n);
     n

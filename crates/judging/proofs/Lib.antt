@@ -1,3 +1,3 @@
--- What the proofs of the calls on the queue go by.
+-- What the proofs of the calls on the queues go by.
 mod MetSiblings
 mod Leaving

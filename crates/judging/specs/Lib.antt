@@ -1,3 +1,3 @@
--- Parts of what the calls on the queue give and leave.
+-- Parts of what the calls on the queues give and leave.
 pub mod Met
 pub mod Reveal

@@ -1,19 +1,21 @@
-// An action enters the queue: its verdict is settled now, and nobody sees it yet.
+// An action enters the queue of its kind: its verdict is settled now, and nobody sees it yet.
 ghost use mathlib.Core.Path.{_≡_};
 ghost use mathlib.Core.Bool.{false};
+ghost use Rattle.rules.specs.Table.{kindOf};
 ghost use Rattle.rules.specs.Sound.{MayWait, Sound};
-ghost use Rattle.rules.specs.Queue.{theQueue, isQueued, withTail};
-ghost use Rattle.rules.specs.Verdict.{verdictOf};
+ghost use Rattle.rules.specs.Queue.{isWaiting};
+ghost use Rattle.rules.specs.Step.{enterTable};
 use crate::verdict::verdict;
 use queue::change::put_tail;
-use rules::queue::THE_QUEUE;
+use rows::fields::kind_of;
 
 pub fn enter(table: &mut [u64], n: u64)
     requires { ⌜ Sound (now table) ⌝ }
-    requires { ⌜ MayWait (now table) n ⌝ }
-    requires { ⌜ isQueued (now table) theQueue n ≡ false ⌝ }
-    ensures { λ r. ⌜ now (table .exit) ≡ withTail (now (table .entry)) theQueue n (verdictOf (now (table .entry)) theQueue n) ⌝ }
+    requires { ⌜ MayWait (now table) (kindOf (now table) n) n ⌝ }
+    requires { ⌜ isWaiting (now table) n ≡ false ⌝ }
+    ensures { λ r. ⌜ now (table .exit) ≡ enterTable (now (table .entry)) n ⌝ }
 {
-    let settled = verdict(table, n);
-    put_tail(table, THE_QUEUE, n, settled);
+    let h = kind_of(table, n);
+    let settled = verdict(table, h, n);
+    put_tail(table, h, n, settled);
 }

@@ -1,44 +1,47 @@
-// A verdict revealed: the action fails or becomes ready, and the head is tried.
+// A verdict revealed: the action fails or becomes ready, and the head of its queue is tried.
 ghost use mathlib.Core.Path.{_≡_};
 ghost use mathlib.Core.Bool.{true};
 ghost use Rattle.rules.specs.Card.{StoresFit};
 ghost use Rattle.rules.specs.Ledger.{ledgerOf};
 ghost use Rattle.rules.specs.Sound.{Sound};
-ghost use Rattle.rules.specs.Queue.{theQueue, isQueued};
+ghost use Rattle.rules.specs.Table.{kindOf};
+ghost use Rattle.rules.specs.Queue.{isQueued};
 ghost use Rattle.rules.specs.Step.{outcomeOf, judge};
 ghost use Rattle.judging.specs.Reveal.{revealedTable};
 use crate::leave::leave;
 use queue::change::mark_ready;
 use queue::change::take_out;
 use queue::find::is_queued_failed;
+use rows::fields::kind_of;
 use rows::fields::set_state;
 use rules::Answer;
-use rules::queue::THE_QUEUE;
 use rules::table::ABORTED;
 
 fn reveal(table: &mut [u64], n: u64, failed: bool)
     requires { ⌜ Sound (now table) ⌝ }
-    requires { ⌜ isQueued (now table) theQueue n ≡ true ⌝ }
+    requires { ⌜ isQueued (now table) (kindOf (now table) n) n ≡ true ⌝ }
     ensures { λ r. ⌜ now (table .exit) ≡ revealedTable (now (table .entry)) n failed ⌝ }
 {
+    let h = kind_of(table, n);
     if failed {
-        take_out(table, THE_QUEUE, n);
+        take_out(table, h, n);
         set_state(table, n, ABORTED);
         return;
     }
-    mark_ready(table, THE_QUEUE, n);
+    mark_ready(table, h, n);
 }
 
 pub fn judge(table: &mut [u64], base: &mut [u8], shadow: &mut [u8], n: u64) -> Answer
     requires { ⌜ Sound (now table) ⌝ }
     requires { ⌜ StoresFit (now base) (now shadow) ⌝ }
-    requires { ⌜ isQueued (now table) theQueue n ≡ true ⌝ }
+    requires { ⌜ isQueued (now table) (kindOf (now table) n) n ≡ true ⌝ }
     ensures { λ r. ⌜ outcomeOf r (now (table .exit)) (now (base .exit)) (now (shadow .exit))
         ≡ judge (ledgerOf (now (table .entry)) (now (base .entry)) (now (shadow .entry))) n ⌝ }
 {
-    let failed = is_queued_failed(table, THE_QUEUE, n);
+    let h = kind_of(table, n);
+    let failed = is_queued_failed(table, h, n);
     reveal(table, n, failed);
-    let left = leave(table, base, shadow);
+    let left = leave(table, base, shadow, h);
     if failed {
         return Answer::JudgedFailed(left);
     }

@@ -1,23 +1,21 @@
-// The verdict of an action that enters the queue.
+// The verdict of an action that enters its queue.
 ghost use mathlib.Core.Path.{_≡_};
 ghost use Rattle.rules.specs.Sound.{IsStarted, Sound};
-ghost use Rattle.rules.specs.Queue.{theQueue};
+ghost use Rattle.rules.specs.Kind.{IsKind};
 ghost use Rattle.rules.specs.Verdict.{meets, isMetBy, isMetInQueue, verdictOf};
 ghost use Rattle.rules.specs.Card.{IsAccount};
 ghost use Rattle.rows.specs.Row.{HasRow};
 ghost use Rattle.judging.specs.Met.{isMetAt};
 use rows::entries::entry_number;
 use rows::entries::queue_length;
+use rows::fields::has_read;
 use rows::fields::has_written;
 use rows::fields::parent;
-use rows::fields::read_entry;
 use rules::Found;
 use rules::queue::FAILED;
 use rules::queue::FIRST_POSITION;
 use rules::queue::GOOD;
-use rules::queue::THE_QUEUE;
 use rules::store::ACCOUNTS;
-use rules::table::NO_ENTRY;
 use validation::search::first_clash;
 
 // Account k is in m's write set and in n's read set.
@@ -30,7 +28,7 @@ fn is_met_at(table: &[u64], n: u64, m: u64, k: u64) -> bool
     if !has_written(table, m, k) {
         return false;
     }
-    read_entry(table, n, k) != NO_ENTRY
+    has_read(table, n, k)
 }
 
 fn meets(table: &[u64], n: u64, m: u64) -> bool
@@ -58,14 +56,15 @@ fn is_met_by(table: &[u64], n: u64, m: u64) -> bool
 }
 
 // One of those who wait has written what n has read, and is a sibling of n.
-fn is_met_in_queue(table: &[u64], n: u64) -> bool
+fn is_met_in_queue(table: &[u64], h: u64, n: u64) -> bool
     requires { ⌜ Sound (now table) ⌝ }
+    requires { ⌜ IsKind h ⌝ }
     requires { ⌜ IsStarted (now table) n ⌝ }
-    ensures { λ r. ⌜ r ≡ isMetInQueue (now (table .entry)) theQueue n ⌝ }
+    ensures { λ r. ⌜ r ≡ isMetInQueue (now (table .entry)) h n ⌝ }
 {
-    let tail = queue_length(table, THE_QUEUE);
+    let tail = queue_length(table, h);
     for i in FIRST_POSITION..tail + 1 {
-        let m = entry_number(table, THE_QUEUE, i);
+        let m = entry_number(table, h, i);
         if is_met_by(table, n, m) {
             return true;
         }
@@ -73,14 +72,15 @@ fn is_met_in_queue(table: &[u64], n: u64) -> bool
     false
 }
 
-pub(crate) fn verdict(table: &[u64], n: u64) -> u64
+pub(crate) fn verdict(table: &[u64], h: u64, n: u64) -> u64
     requires { ⌜ Sound (now table) ⌝ }
+    requires { ⌜ IsKind h ⌝ }
     requires { ⌜ IsStarted (now table) n ⌝ }
-    ensures { λ r. ⌜ r ≡ verdictOf (now (table .entry)) theQueue n ⌝ }
+    ensures { λ r. ⌜ r ≡ verdictOf (now (table .entry)) h n ⌝ }
 {
     match first_clash(table, n) {
         Found::Nothing => {
-            if is_met_in_queue(table, n) {
+            if is_met_in_queue(table, h, n) {
                 FAILED
             } else {
                 GOOD

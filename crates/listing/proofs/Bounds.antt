@@ -109,20 +109,20 @@ pub line-fits :
 line-fits words i place kind first second third is more digits room =
     omega (arith, lines-bound words 1 0 i (omega arith), line-bound place kind first second third digits)
 
--- the longest last line: a word of 3 letters, two numbers of 20 digits, two spaces and a line feed
+-- the longest last line: a word of 3 letters, three numbers of 20 digits, three spaces and a line feed
 abbrev pub endLength : ℕ
-endLength = 46
+endLength = 67
 
-pub end-bound : (started counter : ℕ) → length (endLine started counter) ≤ endLength
-end-bound started counter =
-    omega (arith, end-length started counter, decimal-bound started, decimal-bound counter)
+pub end-bound : (started top sub : ℕ) → length (endLine started top sub) ≤ endLength
+end-bound started top sub =
+    omega (arith, end-length started top sub, decimal-bound started, decimal-bound top, decimal-bound sub)
 
 -- the lines of a day and the last line fit the buffer
 pub listing-fits :
-    (words : List ℕ) (n started counter : ℕ) → n ≤ mostEvents
-    → length (linesOf words 1 0 n) + length (endLine started counter) ≤ listingLength
-listing-fits words n started counter h =
-    omega (arith, lines-bound words 1 0 n (omega arith), end-bound started counter)
+    (words : List ℕ) (n started top sub : ℕ) → n ≤ mostEvents
+    → length (linesOf words 1 0 n) + length (endLine started top sub) ≤ listingLength
+listing-fits words n started top sub h =
+    omega (arith, lines-bound words 1 0 n (omega arith), end-bound started top sub)
 
 pub refused-fits : (fault : ℕ) → length (refusedLine fault) ≤ listingLength
 unfolding spaced spacedSum

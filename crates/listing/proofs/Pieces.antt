@@ -22,6 +22,11 @@ pub spaced-two : (m n : ℕ) → spaced (m ∷ n ∷ []) ≡ (space ∷ decimal 
 unfolding spaced
 spaced-two m n = rw append-nil
 
+pub spaced-three :
+    (l m n : ℕ) → spaced (l ∷ m ∷ n ∷ []) ≡ (space ∷ decimal l) ++ ((space ∷ decimal m) ++ (space ∷ decimal n))
+unfolding spaced
+spaced-three l m n = rw append-nil
+
 module _ (kind first second : ℕ) where
   -- written, added and entered
   pub no-numbers : hasNoNumbers kind ≡ true → spaced (numbersOf kind first second) ≡ []
@@ -73,14 +78,16 @@ module _ (kind first second : ℕ) where
     line-length place = simp length-append (omega arith)
 
 pub end-length :
-    (started counter : ℕ)
-    → length (endLine started counter) ≡ length endWord + length (space ∷ decimal started) + length (space ∷ decimal counter) + 1
-end-length started counter =
+    (started top sub : ℕ)
+    → length (endLine started top sub)
+    ≡ length endWord + length (space ∷ decimal started) + length (space ∷ decimal top) + length (space ∷ decimal sub) + 1
+end-length started top sub =
     omega (
       arith,
-      length-append (endWord ++ spaced (started ∷ counter ∷ [])) (lineFeed ∷ []),
-      ap length (spaced-two started counter),
-      length-append (space ∷ decimal started) (space ∷ decimal counter),
+      length-append (endWord ++ spaced (started ∷ top ∷ sub ∷ [])) (lineFeed ∷ []),
+      ap length (spaced-three started top sub),
+      length-append (space ∷ decimal started) ((space ∷ decimal top) ++ (space ∷ decimal sub)),
+      length-append (space ∷ decimal top) (space ∷ decimal sub),
     )
 
 -- one more line stands behind the others

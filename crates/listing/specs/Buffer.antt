@@ -9,10 +9,9 @@ use lib.ListN.{length, take, drop, getD}
 use lib.IntN.{ℤ}
 use Rattle.rules.specs.declared.Answer.the-variants.{Started, Read, ReadSum, Written, Added, Entered, Ready, JudgedFailed, Committed, Failed, Aborted, Refused}
 use Rattle.rules.specs.Amount.{amountOf}
-use Rattle.rules.specs.Table.{started, counter}
 use Rattle.rules.specs.Answer.{said}
 use Rattle.rules.specs.Encoding.{mostEvents, answerLength, refusedKind, startedKind, readKind, writtenKind, committedKind, failedKind, abortedKind, addedKind, readSumKind, enteredKind, readyKind}
-use Rattle.listing.specs.Listing.{space, lineFeed, decimal, spaced, spacedSum, endLine}
+use Rattle.listing.specs.Listing.{space, lineFeed, decimal, spaced, spacedSum, lastLine}
 
 -- RULES 11.4: the bytes of the buffer
 abbrev pub listingLength : ℕ
@@ -78,6 +77,6 @@ unfoldable pub linesOf : List ℕ → ℕ → ℕ → ℕ → List ℕ
 linesOf words place i zero = []
 linesOf words place i (suc n) = lineAt words place i ++ linesOf words (suc place) (suc i) n
 
--- the listing of a day that is run: a line for each of its answers, and the line of its table's two numbers
+-- the listing of a day that is run: a line for each of its answers, and the line of its table's three numbers
 unfoldable pub listingOf : List ℕ → ℕ → List ℕ → List ℕ
-listingOf words count table = linesOf words 1 0 count ++ endLine (started table) (counter table)
+listingOf words count table = linesOf words 1 0 count ++ lastLine table

@@ -7,6 +7,8 @@ use lib.Dec.{ltb}
 use lib.IntN.{ℤ, pos, negsuc}
 use Rattle.rules.specs.declared.Answer.{Answer}
 use Rattle.rules.specs.declared.Answer.the-variants.{Refused}
+use Rattle.rules.specs.Kind.{topKind, subKind}
+use Rattle.rules.specs.Table.{started, counter}
 use Rattle.rules.specs.Answer.{Said, said}
 
 abbrev pub space : ℕ
@@ -68,9 +70,12 @@ unfoldable pub answerLines : ℕ → List Answer → List ℕ
 answerLines place [] = []
 answerLines place (a ∷ answers) = answerLine place a ++ answerLines (suc place) answers
 
--- RULES 10.3: the last line
-abbrev pub endLine : ℕ → ℕ → List ℕ
-endLine started counter = endWord ++ spaced (started ∷ counter ∷ []) ++ (lineFeed ∷ [])
+-- RULES 10.3: the last line, and that of a table
+abbrev pub endLine : ℕ → ℕ → ℕ → List ℕ
+endLine started top sub = endWord ++ spaced (started ∷ top ∷ sub ∷ []) ++ (lineFeed ∷ [])
+
+abbrev pub lastLine : List ℕ → List ℕ
+lastLine w = endLine (started w) (counter w topKind) (counter w subKind)
 
 -- RULES 10.4: the line of a refused day
 abbrev pub refusedLine : ℕ → List ℕ

@@ -130,18 +130,19 @@ fn put_lines(out: &mut [u8], answers: &[u64], count: usize) -> usize
     at
 }
 
-fn put_end(out: &mut [u8], at: usize, started: u64, counter: u64) -> usize
-    requires { ⌜ at + length (endLine started counter) ≤ length (now out) ⌝ }
-    ensures next { λ r. ⌜ r ≡ at + length (endLine started counter) ⌝ }
-    ensures leaves { λ r. ⌜ now (out .exit) ≡ putAt (now (out .entry)) at (endLine started counter) ⌝ }
+fn put_end(out: &mut [u8], at: usize, started: u64, top: u64, sub: u64) -> usize
+    requires { ⌜ at + length (endLine started top sub) ≤ length (now out) ⌝ }
+    ensures next { λ r. ⌜ r ≡ at + length (endLine started top sub) ⌝ }
+    ensures leaves { λ r. ⌜ now (out .exit) ≡ putAt (now (out .entry)) at (endLine started top sub) ⌝ }
 {
     let word = put_text(out, at, b"end");
     let one = put_spaced(out, word, started);
-    let two = put_spaced(out, one, counter);
-    put_byte(out, two, b'\n')
+    let two = put_spaced(out, one, top);
+    let three = put_spaced(out, two, sub);
+    put_byte(out, three, b'\n')
 }
 
-// The listing of a day that is run: its lines, and the line of its table's two numbers.
+// The listing of a day that is run: its lines, and the line of its table's three numbers.
 pub fn put_listing(out: &mut [u8], answers: &[u64], count: usize, table: &[u64]) -> usize
     requires { ⌜ HasAnswers (now answers) count ⌝ }
     requires { ⌜ IsListingBuffer (now out) ⌝ }
@@ -151,8 +152,9 @@ pub fn put_listing(out: &mut [u8], answers: &[u64], count: usize, table: &[u64])
 {
     let next = put_lines(out, answers, count);
     let started = table::started(table);
-    let counter = table::counter(table);
-    put_end(out, next, started, counter)
+    let top = table::top_counter(table);
+    let sub = table::sub_counter(table);
+    put_end(out, next, started, top, sub)
 }
 
 pub fn put_refused(out: &mut [u8], fault: u64) -> usize

@@ -13,7 +13,8 @@ use lib.ListN.{length}
 use Rattle.rules.specs.Range.{upFrom, filter}
 use Rattle.rules.specs.Table.{width, startedField, parentField, word, started, parentOf}
 use Rattle.rules.specs.Walk.{isAbortedBy}
-use Rattle.rules.specs.Queue.{IsQueue, numberField, queueLength, withQueueLength, Entry, entryAt, withEntry, queue, withEntries, withQueue, keepsPlace, withoutBelow}
+use Rattle.rules.specs.Kind.{IsKind}
+use Rattle.rules.specs.Queue.{numberField, queueLength, withQueueLength, Entry, entryAt, withEntry, queue, withEntries, withQueue, keepsPlace, withoutBelow}
 use Rattle.rules.proofs.Laws.Ranges.{left-next, left-done}
 use Rattle.rules.proofs.Laws.Walking.{started-climbs}
 use Rattle.rules.proofs.Laws.Queue.{OffEntry, withEntry-length, withEntry-off, entryAt-other}
@@ -65,7 +66,7 @@ module _ (w : List ℕ) (h n : ℕ) where
     unfolding filter withEntries
     closed-last done = sym (r .leaves ∙ rw (left-done i (queueLength w h + 1) done, add-zero))
 
-    module _ (known : IsQueue h) (s : ParentsBelow w) where
+    module _ (known : IsKind h) (s : ParentsBelow w) where
       same-started : started v ≡ started w
       same-started = r .fields 0 startedField (omega arith) (inl (omega arith))
 

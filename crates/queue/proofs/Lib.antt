@@ -2,3 +2,4 @@
 mod Positions
 mod Putting
 mod Closing
+pub mod OwnQueue

@@ -10,7 +10,8 @@ use lib.ListN.{length-map, length-append}
 use borrow.Author.Tests.{eqb-true}
 use Rattle.rules.specs.Range.{upFrom, any}
 use Rattle.rules.specs.Table.{word}
-use Rattle.rules.specs.Queue.{IsQueue, verdictField, queueLength, withQueueLength, Entry, entryAt, withEntry, ready, queue, withEntries, withQueue, newEntry, withTail, readied, withReady}
+use Rattle.rules.specs.Kind.{IsKind}
+use Rattle.rules.specs.Queue.{verdictField, queueLength, withQueueLength, Entry, entryAt, withEntry, ready, queue, withEntries, withQueue, newEntry, withTail, readied, withReady}
 use Rattle.rules.specs.Sound.{queueNumbers}
 use Rattle.rules.proofs.Laws.Tests.{cond-holds}
 use Rattle.rules.proofs.Laws.Ranges.{not-any-at, map-agree}
@@ -58,7 +59,7 @@ module _ (w : List ℕ) (h n : ℕ) where
       ∙ map-agree _ (entryAt w h) a left (λ i r. other-readied i (not-any-at (standsAt w h n) a left i none r))
 
   first-readied :
-      IsQueue h → (a left : ℕ) → Once w h a left → first (standsAt w h n) (upFrom a left) ≢ 0 →
+      IsKind h → (a left : ℕ) → Once w h a left → first (standsAt w h n) (upFrom a left) ≢ 0 →
       withEntries w h a (map (readied n) (map (entryAt w h) (upFrom a left)))
       ≡ withEntry w h (first (standsAt w h n) (upFrom a left)) (readied n (entryAt w h (first (standsAt w h n) (upFrom a left))))
   unfolding first upFrom withEntries
@@ -100,7 +101,7 @@ module _ (w : List ℕ) (h n : ℕ) where
       refl
 
   pub placed-ready :
-      IsQueue h → StandsOnce w h → positionOf w h n ≢ 0 →
+      IsKind h → StandsOnce w h → positionOf w h n ≢ 0 →
       let i = positionOf w h n in
       withReady w h n ≡ withEntry w h i (record { number = n; verdict = word w i (verdictField h); readiness = ready })
   unfolding queueNumbers queue readied entryAt

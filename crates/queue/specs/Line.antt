@@ -6,15 +6,16 @@ use mathlib.Core.List.{List, [], _∷_}
 use lib.ListN.{length}
 use Rattle.rules.specs.Range.{upFrom}
 use Rattle.rules.specs.Table.{tableLength, mostActions}
-use Rattle.rules.specs.Queue.{IsQueue, queueLength, entryAt, isOf, isQueued}
+use Rattle.rules.specs.Kind.{IsKind}
+use Rattle.rules.specs.Queue.{queueLength, entryAt, isOf, isQueued}
 use Rattle.rules.specs.Sound.{areDistinct, queueNumbers}
 use Rattle.ancestry.specs.Ancestry.{IsKnown}
 
--- w has a table's length, h is the number of a queue, and each of its positions has a row
+-- w has a table's length, h is the kind of those who wait in one of its queues, and each of its positions has a row
 pub record HasLine (w : List ℕ) (h : ℕ) : Type 0 where
   pub long : length w ≡ tableLength
   pub few : queueLength w h ≤ mostActions
-  pub known : IsQueue h
+  pub known : IsKind h
 
 -- there is a row for one position more
 abbrev pub HasRoom : List ℕ → ℕ → Type 0

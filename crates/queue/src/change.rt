@@ -1,6 +1,7 @@
 // The changes of a queue: an action put at the tail, marked as ready, and taken out.
 ghost use mathlib.Core.Path.{_≡_};
-ghost use Rattle.rules.specs.Queue.{IsQueue, entryAt, withEntry, withTail, withReady, withoutBelow};
+ghost use Rattle.rules.specs.Kind.{IsKind};
+ghost use Rattle.rules.specs.Queue.{entryAt, withEntry, withTail, withReady, withoutBelow};
 ghost use Rattle.rows.specs.Row.{HasRow};
 ghost use Rattle.ancestry.specs.Ancestry.{ParentsBelow};
 ghost use Rattle.queue.specs.Line.{HasLine, HasRoom, StandsOnce, AreKnown};
@@ -46,7 +47,7 @@ pub fn mark_ready(table: &mut [u64], h: u64, n: u64)
 fn move_entry(table: &mut [u64], h: u64, from: u64, to: u64)
     requires { ⌜ HasRow (now table) from ⌝ }
     requires { ⌜ HasRow (now table) to ⌝ }
-    requires { ⌜ IsQueue h ⌝ }
+    requires { ⌜ IsKind h ⌝ }
     ensures { λ r. ⌜ now (table .exit) ≡ withEntry (now (table .entry)) h to (entryAt (now (table .entry)) h from) ⌝ }
 {
     let number = entry_number(table, h, from);

@@ -1,6 +1,7 @@
 // Who stands in a queue, with what verdict, and who is ready.
 ghost use mathlib.Core.Path.{_≡_};
-ghost use Rattle.rules.specs.Queue.{isQueued, isQueuedFailed, isQueuedReady, headOf, isHeadReady};
+ghost use Rattle.rules.specs.Kind.{topKind, subKind};
+ghost use Rattle.rules.specs.Queue.{isQueued, isQueuedFailed, isQueuedReady, isWaiting, headOf, isHeadReady};
 ghost use Rattle.queue.specs.Line.{HasLine, StandsOnce, positionOf};
 use rows::entries::entry_number;
 use rows::entries::entry_readiness;
@@ -9,6 +10,8 @@ use rows::entries::queue_length;
 use rules::queue::FIRST_POSITION;
 use rules::queue::GOOD;
 use rules::queue::UNREADY;
+use rules::table::SUB;
+use rules::table::TOP;
 
 // Stands for no position: positions are numbered from 1.
 pub(crate) const NO_POSITION: u64 = 0;
@@ -32,6 +35,18 @@ pub fn is_queued(table: &[u64], h: u64, n: u64) -> bool
     ensures { λ r. ⌜ r ≡ isQueued (now (table .entry)) h n ⌝ }
 {
     position_of(table, h, n) != NO_POSITION
+}
+
+// It stands in one queue or in the other.
+pub fn is_waiting(table: &[u64], n: u64) -> bool
+    requires { ⌜ HasLine (now table) topKind ⌝ }
+    requires { ⌜ HasLine (now table) subKind ⌝ }
+    ensures { λ r. ⌜ r ≡ isWaiting (now (table .entry)) n ⌝ }
+{
+    if is_queued(table, TOP, n) {
+        return true;
+    }
+    is_queued(table, SUB, n)
 }
 
 // The verdict at n's first position is the only one where n stands once.

@@ -1,2 +1,3 @@
 -- Facts that the proofs on rows use.
+mod ByKind
 mod Joining

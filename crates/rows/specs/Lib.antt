@@ -1,2 +1,3 @@
--- What the functions on rows ask of their callers.
+-- What the functions on rows ask of their callers, and times by kind.
 pub mod Row
+pub mod Times

@@ -1,6 +1,7 @@
 // The words of a queue by name: its length, and the entry at a position.
 ghost use mathlib.Core.Path.{_≡_};
-ghost use Rattle.rules.specs.Queue.{IsQueue, queueLength, withQueueLength, entryNumber, entryVerdict, entryReadiness, withEntry};
+ghost use Rattle.rules.specs.Kind.{IsKind};
+ghost use Rattle.rules.specs.Queue.{queueLength, withQueueLength, entryNumber, entryVerdict, entryReadiness, withEntry};
 ghost use Rattle.rows.specs.Row.{HasRow};
 use crate::words::get;
 use crate::words::put;
@@ -13,7 +14,7 @@ use rules::table::HEAD;
 
 pub fn queue_length(table: &[u64], h: u64) -> u64
     requires { ⌜ HasRow (now table) 0 ⌝ }
-    requires { ⌜ IsQueue h ⌝ }
+    requires { ⌜ IsKind h ⌝ }
     ensures { λ r. ⌜ r ≡ queueLength (now (table .entry)) h ⌝ }
 {
     get(table, HEAD, LENGTH_FIELDS + h)
@@ -21,7 +22,7 @@ pub fn queue_length(table: &[u64], h: u64) -> u64
 
 pub fn set_queue_length(table: &mut [u64], h: u64, v: u64)
     requires { ⌜ HasRow (now table) 0 ⌝ }
-    requires { ⌜ IsQueue h ⌝ }
+    requires { ⌜ IsKind h ⌝ }
     ensures { λ r. ⌜ now (table .exit) ≡ withQueueLength (now (table .entry)) h v ⌝ }
 {
     put(table, HEAD, LENGTH_FIELDS + h, v);
@@ -30,7 +31,7 @@ pub fn set_queue_length(table: &mut [u64], h: u64, v: u64)
 // The number of the action that waits at position i.
 pub fn entry_number(table: &[u64], h: u64, i: u64) -> u64
     requires { ⌜ HasRow (now table) i ⌝ }
-    requires { ⌜ IsQueue h ⌝ }
+    requires { ⌜ IsKind h ⌝ }
     ensures { λ r. ⌜ r ≡ entryNumber (now (table .entry)) h i ⌝ }
 {
     get(table, i, ENTRY_FIELDS + ENTRY_WIDTH * h)
@@ -38,7 +39,7 @@ pub fn entry_number(table: &[u64], h: u64, i: u64) -> u64
 
 pub fn entry_verdict(table: &[u64], h: u64, i: u64) -> u64
     requires { ⌜ HasRow (now table) i ⌝ }
-    requires { ⌜ IsQueue h ⌝ }
+    requires { ⌜ IsKind h ⌝ }
     ensures { λ r. ⌜ r ≡ entryVerdict (now (table .entry)) h i ⌝ }
 {
     get(table, i, ENTRY_FIELDS + ENTRY_WIDTH * h + VERDICT_AT)
@@ -46,7 +47,7 @@ pub fn entry_verdict(table: &[u64], h: u64, i: u64) -> u64
 
 pub fn entry_readiness(table: &[u64], h: u64, i: u64) -> u64
     requires { ⌜ HasRow (now table) i ⌝ }
-    requires { ⌜ IsQueue h ⌝ }
+    requires { ⌜ IsKind h ⌝ }
     ensures { λ r. ⌜ r ≡ entryReadiness (now (table .entry)) h i ⌝ }
 {
     get(table, i, ENTRY_FIELDS + ENTRY_WIDTH * h + READY_AT)
@@ -54,7 +55,7 @@ pub fn entry_readiness(table: &[u64], h: u64, i: u64) -> u64
 
 pub fn put_entry(table: &mut [u64], h: u64, i: u64, number: u64, verdict: u64, readiness: u64)
     requires { ⌜ HasRow (now table) i ⌝ }
-    requires { ⌜ IsQueue h ⌝ }
+    requires { ⌜ IsKind h ⌝ }
     ensures { λ r. ⌜ now (table .exit)
         ≡ withEntry (now (table .entry)) h i (record { number = number; verdict = verdict; readiness = readiness }) ⌝ }
 {

@@ -1,14 +1,13 @@
-// The fields of the head and of an action, by name.
+// The fields of the head and of an action, by name, but for those that are times (`times`).
 ghost use mathlib.Core.Path.{_≡_};
 ghost use Rattle.rules.specs.Card.{IsAccount, IsCharge};
-ghost use Rattle.rules.specs.Table.{started, withStarted, counter, withCounter, parentOf, withParent, stateOf, withState, endTime, withEndTime, readEntry, withRead, hasWritten, hasCard, writeEntry, withWrite, pendingWord, withPending, ownAddsWord, withOwnAdds, isLive, isCommitted};
+ghost use Rattle.rules.specs.Kind.{kindUnder};
+ghost use Rattle.rules.specs.Table.{started, withStarted, parentOf, withParent, kindOf, stateOf, withState, hasRead, hasWritten, hasCard, writeEntry, withWrite, pendingWord, withPending, ownAddsWord, withOwnAdds, isLive, isCommitted};
 ghost use Rattle.rows.specs.Row.{HasRow};
 use crate::words::get;
 use crate::words::put;
 use rules::store::FIRST_CHARGE;
 use rules::table::COMMITTED;
-use rules::table::COUNTER_FIELD;
-use rules::table::END_FIELD;
 use rules::table::HEAD;
 use rules::table::LIVE;
 use rules::table::NO_ENTRY;
@@ -18,6 +17,9 @@ use rules::table::PENDING_FIELDS;
 use rules::table::READ_FIELDS;
 use rules::table::STARTED_FIELD;
 use rules::table::STATE_FIELD;
+use rules::table::STORE;
+use rules::table::SUB;
+use rules::table::TOP;
 use rules::table::WRITE_FIELDS;
 
 pub fn last_start(table: &[u64]) -> u64
@@ -34,20 +36,6 @@ pub fn set_last_start(table: &mut [u64], v: u64)
     put(table, HEAD, STARTED_FIELD, v);
 }
 
-pub fn counter(table: &[u64]) -> u64
-    requires { ⌜ HasRow (now table) 0 ⌝ }
-    ensures { λ r. ⌜ r ≡ counter (now (table .entry)) ⌝ }
-{
-    get(table, HEAD, COUNTER_FIELD)
-}
-
-pub fn set_counter(table: &mut [u64], v: u64)
-    requires { ⌜ HasRow (now table) 0 ⌝ }
-    ensures { λ r. ⌜ now (table .exit) ≡ withCounter (now (table .entry)) v ⌝ }
-{
-    put(table, HEAD, COUNTER_FIELD, v);
-}
-
 pub fn parent(table: &[u64], n: u64) -> u64
     requires { ⌜ HasRow (now table) n ⌝ }
     ensures { λ r. ⌜ r ≡ parentOf (now (table .entry)) n ⌝ }
@@ -60,6 +48,20 @@ pub fn set_parent(table: &mut [u64], n: u64, v: u64)
     ensures { λ r. ⌜ now (table .exit) ≡ withParent (now (table .entry)) n v ⌝ }
 {
     put(table, n, PARENT_FIELD, v);
+}
+
+// The kind of p's children, where p is an action or the store.
+pub fn kind_under(p: u64) -> u64
+    ensures { λ r. ⌜ r ≡ kindUnder p ⌝ }
+{
+    if p == STORE { TOP } else { SUB }
+}
+
+pub fn kind_of(table: &[u64], n: u64) -> u64
+    requires { ⌜ HasRow (now table) n ⌝ }
+    ensures { λ r. ⌜ r ≡ kindOf (now (table .entry)) n ⌝ }
+{
+    kind_under(parent(table, n))
 }
 
 pub fn state(table: &[u64], n: u64) -> u64
@@ -90,35 +92,13 @@ pub fn is_committed(table: &[u64], n: u64) -> bool
     state(table, n) == COMMITTED
 }
 
-pub fn end_time(table: &[u64], n: u64) -> u64
-    requires { ⌜ HasRow (now table) n ⌝ }
-    ensures { λ r. ⌜ r ≡ endTime (now (table .entry)) n ⌝ }
-{
-    get(table, n, END_FIELD)
-}
-
-pub fn set_end_time(table: &mut [u64], n: u64, v: u64)
-    requires { ⌜ HasRow (now table) n ⌝ }
-    ensures { λ r. ⌜ now (table .exit) ≡ withEndTime (now (table .entry)) n v ⌝ }
-{
-    put(table, n, END_FIELD, v);
-}
-
-// 0 where the account isn't in the read set, one more than its time where it is
-pub fn read_entry(table: &[u64], n: u64, k: u64) -> u64
+// The account is in the read set; the times that it was read at are told by `times`.
+pub fn has_read(table: &[u64], n: u64, k: u64) -> bool
     requires { ⌜ HasRow (now table) n ⌝ }
     requires { ⌜ IsAccount k ⌝ }
-    ensures { λ r. ⌜ r ≡ readEntry (now (table .entry)) n k ⌝ }
+    ensures { λ r. ⌜ r ≡ hasRead (now (table .entry)) n k ⌝ }
 {
-    get(table, n, READ_FIELDS + k)
-}
-
-pub fn set_read_entry(table: &mut [u64], n: u64, k: u64, v: u64)
-    requires { ⌜ HasRow (now table) n ⌝ }
-    requires { ⌜ IsAccount k ⌝ }
-    ensures { λ r. ⌜ now (table .exit) ≡ withRead (now (table .entry)) n k v ⌝ }
-{
-    put(table, n, READ_FIELDS + k, v);
+    get(table, n, READ_FIELDS + k) != NO_ENTRY
 }
 
 pub fn write_entry(table: &[u64], n: u64, k: u64) -> u64

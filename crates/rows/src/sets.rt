@@ -13,6 +13,7 @@ use rules::table::NO_ENTRY;
 use rules::table::OWN_ADDS_FIELDS;
 use rules::table::PENDING_FIELDS;
 use rules::table::READ_FIELDS;
+use rules::table::SUB_TIME_FIELDS;
 use rules::table::WRITE_FIELDS;
 
 pub fn has_writes(table: &[u64], n: u64) -> bool
@@ -50,12 +51,13 @@ fn clear_fields(table: &mut [u64], n: u64, first: u64, from: u64)
     }
 }
 
-// A start's row: both sets empty and no sum pending, whatever stood there.
+// A start's row: both sets empty, with no time left of a read, and no sum pending, whatever stood there.
 pub fn clear_sets(table: &mut [u64], n: u64)
     requires { ⌜ HasRow (now table) n ⌝ }
-    ensures { λ r. ⌜ now (table .exit) ≡ withSets (now (table .entry)) n (λ k. 0) (λ k. 0) (λ k. 0) ⌝ }
+    ensures { λ r. ⌜ now (table .exit) ≡ withSets (now (table .entry)) n (λ k. 0) (λ k. 0) (λ k. 0) (λ k. 0) ⌝ }
 {
     clear_fields(table, n, READ_FIELDS, FIRST_ACCOUNT);
+    clear_fields(table, n, SUB_TIME_FIELDS, FIRST_ACCOUNT);
     clear_fields(table, n, WRITE_FIELDS, FIRST_ACCOUNT);
     clear_fields(table, n, PENDING_FIELDS, FIRST_CHARGE);
 }

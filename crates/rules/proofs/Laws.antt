@@ -9,6 +9,7 @@ pub mod Words
 pub mod Fields
 pub mod Sets
 pub mod RowPass
+pub mod Kinds
 pub mod Queue
 pub mod QueueLoops
 pub mod Distinct

@@ -2,6 +2,7 @@
 pub mod Soundness
 pub mod TableChanges
 pub mod QueueChanges
+pub mod TakingOut
 pub mod Starting
 pub mod Reading
 pub mod Writing

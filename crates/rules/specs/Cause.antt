@@ -8,10 +8,10 @@ use lib.IntN.{ℤ, _+ℤ_}
 use Rattle.rules.specs.Card.{accountCount, isCharge, chargeAccounts, cardLength, baseLength, shadowLength}
 use Rattle.rules.specs.Amount.{isAmount, isAddable, amountIn}
 use Rattle.rules.specs.Range.{any}
-use Rattle.rules.specs.Table.{mostActions, started, parentOf, hasWritten, pendingSum, ownAdds, isLive, hasLiveChild}
+use Rattle.rules.specs.Table.{mostActions, started, parentOf, kindOf, hasWritten, pendingSum, ownAdds, isLive, hasLiveChild}
 use Rattle.rules.specs.Held.{heldSum}
 use Rattle.rules.specs.Sound.{sound}
-use Rattle.rules.specs.Queue.{theQueue, queueLength, isQueued, isQueuedReady}
+use Rattle.rules.specs.Queue.{queueLength, isQueued, isQueuedReady, isWaiting}
 use Rattle.rules.specs.Event.{Event, startCode, judgeCode, isStart, isRead, isWrite, isCommit, isAbort, isAdd, isEnter, isJudge}
 use Rattle.rules.specs.Nearest.{readSum}
 use Rattle.rules.specs.declared.Found.{Found}
@@ -100,21 +100,22 @@ isChildLive w used n = used && hasLiveChild w n
 abbrev pub queuedCause : ℕ
 queuedCause = 16
 
-abbrev pub isWaiting : List ℕ → Bool → ℕ → Bool
-isWaiting w used n = used && isQueued w theQueue n
+abbrev pub isQueuedAlready : List ℕ → Bool → ℕ → Bool
+isQueuedAlready w used n = used && isWaiting w n
 
 abbrev pub judgeCause : ℕ
 judgeCause = 17
 
--- the action isn't queued, or it is ready
+-- the action isn't in the queue of its kind, or it is ready there
 abbrev pub isJudgeVain : List ℕ → Bool → ℕ → Bool
-isJudgeVain w used n = used && (not (isQueued w theQueue n) || isQueuedReady w theQueue n)
+isJudgeVain w used n = used && (not (isQueued w (kindOf w n) n) || isQueuedReady w (kindOf w n) n)
 
 abbrev pub queueCause : ℕ
 queueCause = 18
 
-abbrev pub isOvertaking : List ℕ → Bool → Bool
-isOvertaking w used = used && not (eqb (queueLength w theQueue) 0)
+-- the queue of the action's kind isn't empty
+abbrev pub isOvertaking : List ℕ → Bool → ℕ → Bool
+isOvertaking w used n = used && not (eqb (queueLength w (kindOf w n)) 0)
 
 abbrev pub sumCause : ℕ
 sumCause = 15
@@ -177,9 +178,9 @@ earlyCauses w e =
     ∷ record { number = kindCause; applies = isKindWrong e }
     ∷ record { number = amountCause; applies = isAmountTooLarge (isAdd e) (e .card) }
     ∷ record { number = childLiveCause; applies = isChildLive w (isRead e || isWrite e || isCommit e || isAdd e || isEnter e) (e .number) }
-    ∷ record { number = queuedCause; applies = isWaiting w (not (isJudge e || isAbort e)) (e .number) }
+    ∷ record { number = queuedCause; applies = isQueuedAlready w (not (isJudge e || isAbort e)) (e .number) }
     ∷ record { number = judgeCause; applies = isJudgeVain w (isJudge e) (e .number) }
-    ∷ record { number = queueCause; applies = isOvertaking w (isCommit e) }
+    ∷ record { number = queueCause; applies = isOvertaking w (isCommit e) (e .number) }
     ∷ []
 
 -- the last

@@ -7,11 +7,11 @@ use Rattle.rules.specs.declared.Found.{Found}
 use Rattle.rules.specs.declared.Found.the-variants.{Nothing, At}
 use Rattle.rules.specs.Range.{filter}
 use Rattle.rules.specs.Card.{accounts}
-use Rattle.rules.specs.Table.{parentOf, endTime, hasRead, readTime, hasWritten, records}
+use Rattle.rules.specs.Table.{parentOf, kindOf, endTime, hasRead, readTime, hasWritten, records}
 
--- RULES 4.2: action n clashes with record m over account k
+-- RULES 4.2: action n clashes with record m over account k; the two times are of m's kind
 abbrev pub isClash : List ℕ → ℕ → ℕ → ℕ → Bool
-isClash w n m k = hasWritten w m k && hasRead w n k && ltb (readTime w n k) (endTime w m)
+isClash w n m k = hasWritten w m k && hasRead w n k && ltb (readTime w (kindOf w m) n k) (endTime w m)
 
 -- a record and an account
 pub record Pair : Type 0 where

@@ -7,7 +7,7 @@ use lib.Dec.{eqb}
 use lib.IntN.{_+ℤ_}
 use Rattle.rules.specs.Range.{downTo, fold}
 use Rattle.rules.specs.Card.{accountCount, isCharge, shadowPlace, cardAt}
-use Rattle.rules.specs.Table.{committed, counter, withCounter, withState, withEndTime, readEntry, hasRead, writeEntry, entered, hasWritten, hasWrites, hasCard, pendingSum, withBothSets}
+use Rattle.rules.specs.Table.{committed, counter, withCounter, kindOf, withState, withEndTime, readEntry, hasRead, subTime, writeEntry, entered, hasWritten, hasWrites, hasCard, pendingSum, withBothSets}
 use Rattle.rules.specs.Ledger.{Ledger, withTable}
 use Rattle.rules.specs.Held.{heldSum, withHeldCard, withHeldSum}
 
@@ -29,16 +29,16 @@ copiedDown s n p k = fold (λ j now. copyOne now n p j) (downTo k (accountCount 
 
 -- ---- RULES 4.5: the end
 
--- the end time that a commit of n gets, and the counter that it leaves
+-- the end time that a commit of n gets, and what it leaves in the counter of n's kind
 unfoldable pub commitTime : List ℕ → ℕ → ℕ
-commitTime w n = cond (hasWrites w n) (counter w + 1) 0
+commitTime w n = cond (hasWrites w n) (counter w (kindOf w n) + 1) 0
 
 unfoldable pub commitCounter : List ℕ → ℕ → ℕ
-commitCounter w n = cond (hasWrites w n) (counter w + 1) (counter w)
+commitCounter w n = cond (hasWrites w n) (counter w (kindOf w n) + 1) (counter w (kindOf w n))
 
--- state, end time and counter after n's commit passes
+-- state, end time and that counter after n's commit passes; the other counter stays
 abbrev pub endTable : List ℕ → ℕ → List ℕ
-endTable w n = withCounter (withEndTime (withState w n committed) n (commitTime w n)) (commitCounter w n)
+endTable w n = withCounter (withEndTime (withState w n committed) n (commitTime w n)) (kindOf w n) (commitCounter w n)
 
 -- ---- RULES 4.5: the sets of a parent that is an action
 
@@ -46,13 +46,16 @@ endTable w n = withCounter (withEndTime (withState w n committed) n (commitTime 
 abbrev pub passesRead : List ℕ → ℕ → ℕ → ℕ → Bool
 passesRead w n p k = hasRead w n k && not (hasCard w p k)
 
--- of a child's read entry and its parent's the one of the smaller time; the parent may have none
-abbrev pub earlierRead : ℕ → ℕ → ℕ
-earlierRead child parent = cond (eqb parent 0) child (min child parent)
+-- of a word of n's read of account k and that of p's the smaller; the parent may have no read
+abbrev pub joinedWord : List ℕ → ℕ → ℕ → ℕ → ℕ → ℕ → ℕ
+joinedWord w n p k child parent = cond (passesRead w n p k) (cond (hasRead w p k) (min child parent) child) parent
 
--- p's read entry for account k after the commit of its child n
+-- p's read entry for account k after the commit of its child n, and the subaction time beside it: each the smaller by itself
 abbrev pub joinedRead : List ℕ → ℕ → ℕ → ℕ → ℕ
-joinedRead w n p k = cond (passesRead w n p k) (earlierRead (readEntry w n k) (readEntry w p k)) (readEntry w p k)
+joinedRead w n p k = joinedWord w n p k (readEntry w n k) (readEntry w p k)
+
+abbrev pub joinedTime : List ℕ → ℕ → ℕ → ℕ → ℕ
+joinedTime w n p k = joinedWord w n p k (subTime w n k) (subTime w p k)
 
 -- p's write entry for account k after it; without a write of n's it stays
 abbrev pub joinedWrite : List ℕ → ℕ → ℕ → ℕ → ℕ
@@ -60,7 +63,7 @@ joinedWrite w n p k = cond (hasWritten w n k) entered (writeEntry w p k)
 
 -- p's sets with those of its child n
 unfoldable pub joinTable : List ℕ → ℕ → ℕ → List ℕ
-joinTable w n p = withBothSets w p (joinedRead w n p) (joinedWrite w n p)
+joinTable w n p = withBothSets w p (joinedRead w n p) (joinedTime w n p) (joinedWrite w n p)
 
 -- ---- RULES 4.5: the whole
 

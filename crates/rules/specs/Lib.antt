@@ -2,6 +2,7 @@
 pub mod Range
 pub mod Card
 pub mod Amount
+pub mod Kind
 pub mod Table
 pub mod Ledger
 pub mod Held

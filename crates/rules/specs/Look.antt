@@ -7,7 +7,7 @@ use lib.ListN.{take, drop}
 use Rattle.rules.specs.declared.Version.{Version}
 use Rattle.rules.specs.Card.{cardLength, basePlace, shadowPlace}
 use Rattle.rules.specs.Sound.{sound}
-use Rattle.rules.specs.Cause.{firstCause, storeLengthCause, isStoreLengthWrong, unsoundCause, numberCause, isNumberUnknown, notLiveCause, isNotLive, accountCause, isAccountUnknown, childLiveCause, isChildLive, queuedCause, isWaiting, sumCause, isReadOutside}
+use Rattle.rules.specs.Cause.{firstCause, storeLengthCause, isStoreLengthWrong, unsoundCause, numberCause, isNumberUnknown, notLiveCause, isNotLive, accountCause, isAccountUnknown, childLiveCause, isChildLive, queuedCause, isQueuedAlready, sumCause, isReadOutside}
 use Rattle.rules.specs.Nearest.{version}
 
 -- RULES 8.3: its causes, which are a read's (proofs/Stores/Looking.antt)
@@ -20,7 +20,7 @@ lookCause w base shadow n k =
     ∷ record { number = notLiveCause; applies = isNotLive w n }
     ∷ record { number = accountCause; applies = isAccountUnknown true k }
     ∷ record { number = childLiveCause; applies = isChildLive w true n }
-    ∷ record { number = queuedCause; applies = isWaiting w true n }
+    ∷ record { number = queuedCause; applies = isQueuedAlready w true n }
     ∷ record { number = sumCause; applies = isReadOutside w base n k }
     ∷ [])
 

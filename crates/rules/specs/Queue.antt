@@ -1,23 +1,14 @@
--- RULES 1.7 and 1.10: the queue of the actions that wait to be judged, by the queue's number h, and the three changes of it. Its
--- words are read and changed by `word` and `withWord` as all others are. Assumes nothing.
-use Prim.Native.Nat.{ℕ, suc, _+_, _*_, _<_}
+-- RULES 1.7 and 1.10: the two queues of the actions that wait to be judged, each by the kind h of those who stand in it, and the
+-- three changes of a queue. Its words are read and changed by `word` and `withWord` as all others are. Assumes nothing.
+use Prim.Native.Nat.{ℕ, suc, _+_, _*_}
 use mathlib.Core.Bool.{Bool, not, cond, _&&_}
 use mathlib.Core.List.{List, [], _∷_, _++_, map}
 use lib.Dec.{ltb, eqb}
 use lib.ListN.{length}
 use Rattle.rules.specs.Range.{upFrom, any, filter}
-use Rattle.rules.specs.Table.{actionWidth, word, withWord}
+use Rattle.rules.specs.Kind.{kinds}
+use Rattle.rules.specs.Table.{entryFields, word, withWord}
 use Rattle.rules.specs.Walk.{isAbortedBy}
-
--- how many queues a table has, and the number of the one that there is
-abbrev pub queueCount : ℕ
-queueCount = 1
-
-abbrev pub IsQueue : ℕ → Type 0
-IsQueue h = h < queueCount
-
-abbrev pub theQueue : ℕ
-theQueue = 0
 
 -- ---- its words
 
@@ -34,12 +25,12 @@ queueLength w h = word w 0 (queueLengthField h)
 abbrev pub withQueueLength : List ℕ → ℕ → ℕ → List ℕ
 withQueueLength w h v = withWord w 0 (queueLengthField h) v
 
--- the entry at position i, three words of row i, behind those of action i
+-- the entry at position i, three words of row i that are none of action i's
 abbrev pub entryWidth : ℕ
 entryWidth = 3
 
 abbrev pub numberField : ℕ → ℕ
-numberField h = actionWidth + entryWidth * h
+numberField h = entryFields + entryWidth * h
 
 abbrev pub verdictField : ℕ → ℕ
 verdictField h = numberField h + 1
@@ -102,7 +93,7 @@ queue w h = map (entryAt w h) (upFrom 1 (queueLength w h))
 abbrev pub isOf : ℕ → Entry → Bool
 isOf n e = eqb n (e .number)
 
--- n is queued; its verdict is failed; it is ready
+-- n stands in queue h; its verdict is failed; it is ready
 unfoldable pub isQueued : List ℕ → ℕ → ℕ → Bool
 isQueued w h n = any (isOf n) (queue w h)
 
@@ -111,6 +102,10 @@ isQueuedFailed w h n = any (λ e. isOf n e && hasFailed e) (queue w h)
 
 unfoldable pub isQueuedReady : List ℕ → ℕ → ℕ → Bool
 isQueuedReady w h n = any (λ e. isOf n e && isReady e) (queue w h)
+
+-- n is queued, in whichever queue
+unfoldable pub isWaiting : List ℕ → ℕ → Bool
+isWaiting w n = any (λ h. isQueued w h n) kinds
 
 -- the action at the head, and whether there is one and it is ready
 abbrev pub headOf : List ℕ → ℕ → ℕ

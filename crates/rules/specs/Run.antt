@@ -1,4 +1,4 @@
--- RULES 2.9: a list of events, one after the other: every answer, who committed by leaving the queue at each event, and what
+-- RULES 2.9: a list of events, one after the other: every answer, who committed by leaving a queue at each event, and what
 -- stands at the end. Assumes nothing.
 use Prim.Native.Nat.{ℕ}
 use mathlib.Core.List.{List, [], _∷_}

@@ -8,9 +8,18 @@ use mathlib.Core.List.{List, [], _∷_, map}
 use lib.Dec.{leb, ltb, eqb}
 use lib.ListN.{length}
 use Rattle.rules.specs.Range.{upFrom, any, all, count}
+use Rattle.rules.specs.Kind.{IsKind, kinds}
 use Rattle.rules.specs.Card.{accountCount, accounts, IsCharge, chargeAccounts}
-use Rattle.rules.specs.Table.{tableLength, mostActions, live, committed, aborted, started, counter, parentOf, stateOf, endTime, hasRead, readTime, hasWritten, pendingWord, isLive, isCommitted, hasEnd, actions, hasLiveChild}
-use Rattle.rules.specs.Queue.{theQueue, queueLength, queue, isQueued}
+use Rattle.rules.specs.Table.{tableLength, mostActions, live, committed, aborted, started, counter, parentOf, kindOf, stateOf, endTime, hasRead, readTime, hasWritten, pendingWord, isLive, isCommitted, hasEnd, actions, hasLiveChild}
+use Rattle.rules.specs.Queue.{queueLength, queue, isQueued}
+
+-- 7.3: n has committed, and is of kind h
+abbrev pub isCommittedOf : List ℕ → ℕ → ℕ → Bool
+isCommittedOf w h n = isCommitted w n && eqb (kindOf w n) h
+
+-- the counter of kind h is at most the number of those
+unfoldable pub isCounted : List ℕ → ℕ → Bool
+isCounted w h = leb (counter w h) (count (isCommittedOf w h) (actions w))
 
 -- 7.4: the state's word is that of a state
 abbrev pub hasState : List ℕ → ℕ → Bool
@@ -24,14 +33,17 @@ hasParentBelow w n = ltb (parentOf w n) n
 abbrev pub hasParentAlive : List ℕ → ℕ → Bool
 hasParentAlive w n = not (isLive w n) || (eqb (parentOf w n) 0 || isLive w (parentOf w n))
 
--- 7.7: where the action is live none of its reads is later than the counter
-unfoldable pub hasReadInTime : List ℕ → ℕ → Bool
-hasReadInTime w n =
-    not (isLive w n) || all (λ k. not (hasRead w n k) || leb (readTime w n k) (counter w)) accounts
+-- 7.7: none of the action's reads has a time of kind h that is later than that kind's counter
+unfoldable pub hasTimesIn : List ℕ → ℕ → ℕ → Bool
+hasTimesIn w n h = all (λ k. not (hasRead w n k) || leb (readTime w h n k) (counter w h)) accounts
 
--- 7.8: where the action has an end time that counts, this is from 1 to the counter
+-- .. where the action is live, and of either kind
+unfoldable pub hasReadInTime : List ℕ → ℕ → Bool
+hasReadInTime w n = not (isLive w n) || all (hasTimesIn w n) kinds
+
+-- 7.8: where the action has an end time that counts, this is from 1 to the counter of the action's kind
 abbrev pub hasEndInTime : List ℕ → ℕ → Bool
-hasEndInTime w n = not (hasEnd w n) || (leb 1 (endTime w n) && leb (endTime w n) (counter w))
+hasEndInTime w n = not (hasEnd w n) || (leb 1 (endTime w n) && leb (endTime w n) (counter w (kindOf w n)))
 
 -- 7.9: m has the same parent as n, and as a committed writer the same end time; asked of the numbers below n
 abbrev pub sharesEndTime : List ℕ → ℕ → ℕ → Bool
@@ -55,9 +67,9 @@ isSoundAction w n =
     && hasEndAlone w n
     && hasPendingWritten w n
 
--- 7.12: n is the number of a live action without a live child
-unfoldable pub mayWait : List ℕ → ℕ → Bool
-mayWait w n = leb 1 n && leb n (started w) && isLive w n && not (hasLiveChild w n)
+-- 7.12: n is the number of a live action of kind h without a live child
+unfoldable pub mayWait : List ℕ → ℕ → ℕ → Bool
+mayWait w h n = leb 1 n && leb n (started w) && isLive w n && eqb (kindOf w n) h && not (hasLiveChild w n)
 
 -- 7.13: each of these numbers stands here once
 unfoldable pub areDistinct : List ℕ → Bool
@@ -71,46 +83,48 @@ queueNumbers w h = map (λ e. e .number) (queue w h)
 -- 7.11 to 7.13
 unfoldable pub isSoundQueue : List ℕ → ℕ → Bool
 isSoundQueue w h =
-    leb (queueLength w h) mostActions && all (mayWait w) (queueNumbers w h) && areDistinct (queueNumbers w h)
+    leb (queueLength w h) mostActions && all (mayWait w h) (queueNumbers w h) && areDistinct (queueNumbers w h)
 
--- 7.1 the length, 7.2 the last start, 7.3 the counter, and those clauses of each action and of the queue
+-- 7.1 the length, 7.2 the last start, 7.3 the counters, and those clauses of each action and of each queue
 unfoldable pub sound : List ℕ → Bool
 sound w =
     eqb (length w) tableLength
     && leb (started w) mostActions
-    && leb (counter w) (count (isCommitted w) (actions w))
+    && all (isCounted w) kinds
     && all (isSoundAction w) (actions w)
-    && isSoundQueue w theQueue
+    && all (isSoundQueue w) kinds
 
 -- n is the number of a started action
 abbrev pub IsStarted : List ℕ → ℕ → Type 0
 IsStarted w n = (1 ≤ n) × (n ≤ started w)
 
--- The same clauses as facts: of an action that waits in a queue,
-pub record MayWait (w : List ℕ) (n : ℕ) : Type 0 where
+-- The same clauses as facts: of an action that waits in queue h,
+pub record MayWait (w : List ℕ) (h n : ℕ) : Type 0 where
   pub begun : IsStarted w n
   pub alive : isLive w n ≡ true
+  pub kind : kindOf w n ≡ h
   pub childless : hasLiveChild w n ≡ false
 
 -- of queue h,
 pub record SoundQueue (w : List ℕ) (h : ℕ) : Type 0 where
   pub short : queueLength w h ≤ mostActions
-  pub waits : (n : ℕ) → isQueued w h n ≡ true → MayWait w n
+  pub waits : (n : ℕ) → isQueued w h n ≡ true → MayWait w h n
   pub once : areDistinct (queueNumbers w h) ≡ true
 
 -- and of the table
 pub record Sound (w : List ℕ) : Type 0 where
   pub long : length w ≡ tableLength
   pub few : started w ≤ mostActions
-  pub counted : counter w ≤ count (isCommitted w) (actions w)
+  pub counted : (h : ℕ) → IsKind h → counter w h ≤ count (isCommittedOf w h) (actions w)
   pub states : (n : ℕ) → IsStarted w n → hasState w n ≡ true
   pub below : (n : ℕ) → IsStarted w n → parentOf w n < n
   pub alive : (n : ℕ) → IsStarted w n → isLive w n ≡ true → (parentOf w n ≡ 0) ⊎ (isLive w (parentOf w n) ≡ true)
   pub reads :
-      (n k : ℕ) → IsStarted w n → isLive w n ≡ true → k < accountCount → hasRead w n k ≡ true → readTime w n k ≤ counter w
-  pub ends : (n : ℕ) → IsStarted w n → hasEnd w n ≡ true → (1 ≤ endTime w n) × (endTime w n ≤ counter w)
+      (h n k : ℕ) → IsKind h → IsStarted w n → isLive w n ≡ true → k < accountCount → hasRead w n k ≡ true →
+      readTime w h n k ≤ counter w h
+  pub ends : (n : ℕ) → IsStarted w n → hasEnd w n ≡ true → (1 ≤ endTime w n) × (endTime w n ≤ counter w (kindOf w n))
   pub alone :
       (n m : ℕ) → IsStarted w n → IsStarted w m → hasEnd w n ≡ true → hasEnd w m ≡ true →
       parentOf w m ≡ parentOf w n → endTime w m ≡ endTime w n → m ≡ n
   pub pendings : (n k : ℕ) → IsStarted w n → IsCharge k → hasWritten w n k ≡ false → pendingWord w n k ≡ 0
-  pub line : SoundQueue w theQueue
+  pub lines : (h : ℕ) → IsKind h → SoundQueue w h

@@ -10,9 +10,10 @@ use Rattle.rules.specs.Ledger.{Ledger, ledgerOf, withTable}
 use Rattle.rules.specs.Range.{count, fold}
 use Rattle.rules.specs.Card.{isCharge, shadowPlace, withCard}
 use Rattle.rules.specs.Amount.{amountWord, amountIn}
-use Rattle.rules.specs.Table.{live, aborted, started, withStarted, counter, parentOf, withParent, withState, withEndTime, withRead, hasRead, withWrite, entered, hasCard, withPending, pendingSum, ownAdds, withOwnAdds, withoutAdds, withSets, actions}
+use Rattle.rules.specs.Kind.{topKind, subKind}
+use Rattle.rules.specs.Table.{live, aborted, started, withStarted, counter, parentOf, withParent, kindOf, withState, withEndTime, withRead, hasRead, withSubTime, withWrite, entered, hasCard, withPending, pendingSum, ownAdds, withOwnAdds, withoutAdds, withSets, actions}
 use Rattle.rules.specs.Walk.{isAbortedBy}
-use Rattle.rules.specs.Queue.{theQueue, queueLength, headOf, isHeadReady, isQueuedFailed, withTail, withReady, withoutBelow}
+use Rattle.rules.specs.Queue.{queueLength, headOf, isHeadReady, isQueuedFailed, withTail, withReady, withoutBelow}
 use Rattle.rules.specs.Event.{Event, isStart, isRead, isWrite, isCommit, isAbort, isAdd, isEnter, isJudge}
 use Rattle.rules.specs.Commit.{commitTime, committedUnder}
 use Rattle.rules.specs.Cause.{isCommitOutside, causeOf}
@@ -37,7 +38,7 @@ unfoldable pub startTable : List ℕ → ℕ → List ℕ
 startTable w p =
     let n = started w + 1 in
     let opened = withEndTime (withState (withParent (withStarted w n) n p) n live) n 0 in
-    withSets (withoutAdds opened n) n (λ k. 0) (λ k. 0) (λ k. 0)
+    withSets (withoutAdds opened n) n (λ k. 0) (λ k. 0) (λ k. 0) (λ k. 0)
 
 unfoldable pub start : Ledger → ℕ → Outcome
 start s p = record { answer = Started (started (s .table) + 1); after = withTable s (startTable (s .table) p) }
@@ -48,8 +49,12 @@ start s p = record { answer = Started (started (s .table) + 1); after = withTabl
 abbrev pub leavesReadSet : List ℕ → ℕ → ℕ → Bool
 leavesReadSet w n k = hasRead w n k || hasCard w n k
 
+-- k in the read set, with both counters as its times
+abbrev pub withReadNow : List ℕ → ℕ → ℕ → List ℕ
+withReadNow w n k = withSubTime (withRead w n k (counter w topKind + 1)) n k (counter w subKind)
+
 unfoldable pub readTable : List ℕ → ℕ → ℕ → List ℕ
-readTable w n k = cond (leavesReadSet w n k) w (withRead w n k (counter w + 1))
+readTable w n k = cond (leavesReadSet w n k) w (withReadNow w n k)
 
 -- a charge account's answer has the sum too
 unfoldable pub readAnswer : List ℕ → List ℕ → ℕ → ℕ → Answer
@@ -98,13 +103,13 @@ judged s n (At t k) = record { answer = Failed t k; after = failedLedger s n }
 unfoldable pub commit : Ledger → ℕ → Outcome
 commit s n = judged s n (firstClash (s .table) n)
 
--- ---- RULES 2.14: the head is tried
+-- ---- RULES 2.14: the head of a queue is tried
 
--- the ledger after those have been taken out of the queue whom an abort of n reaches
+-- the ledger after those have been taken out of queue h whom an abort of n reaches
 abbrev pub takenOut : Ledger → ℕ → ℕ → Ledger
 takenOut s h n = withTable s (withoutBelow (s .table) h n)
 
--- n, which has left the queue, is finished, by whether a sum of its commit is outside; and whether it has committed then, as a
+-- n, which has left its queue, is finished, by whether a sum of its commit is outside; and whether it has committed then, as a
 -- list
 unfoldable pub finished : Ledger → ℕ → Bool → Ledger
 finished s n false = committedUnder s n (parentOf (s .table) n)
@@ -155,19 +160,32 @@ leaveWhile (suc most) true h s =
 unfoldable pub leave : ℕ → Ledger → Left
 leave h s = leaveWhile (queueLength (s .table) h) (isHeadReady (s .table) h) h s
 
--- ---- RULES 2.11 and 2.12: enter and judge
+-- first the topactions' queue is left, then the other
+unfoldable pub leaveBoth : Ledger → Left
+leaveBoth s =
+    let tops = leave topKind s in
+    let subs = leave subKind (tops .after) in
+    record { after = subs .after; many = tops .many + subs .many; commits = tops .commits ++ subs .commits }
+
+-- ---- RULES 2.11 and 2.12: enter and judge, at the queue of the action's kind
+
+unfoldable pub enterTable : List ℕ → ℕ → List ℕ
+enterTable w n = withTail w (kindOf w n) n (verdictOf w (kindOf w n) n)
 
 unfoldable pub enter : Ledger → ℕ → Outcome
-enter s n =
-    record { answer = Entered; after = withTable s (withTail (s .table) theQueue n (verdictOf (s .table) theQueue n)) }
+enter s n = record { answer = Entered; after = withTable s (enterTable (s .table) n) }
+
+-- n's verdict is failed
+abbrev pub isJudgedFailed : List ℕ → ℕ → Bool
+isJudgedFailed w n = isQueuedFailed w (kindOf w n) n
 
 -- the ledger after n's verdict is revealed, by whether it is failed, and before the head is tried
 unfoldable pub revealed : Ledger → ℕ → Bool → Ledger
-revealed s n true = failedLedger (takenOut s theQueue n) n
-revealed s n false = withTable s (withReady (s .table) theQueue n)
+revealed s n true = failedLedger (takenOut s (kindOf (s .table) n) n) n
+revealed s n false = withTable s (withReady (s .table) (kindOf (s .table) n) n)
 
 unfoldable pub judgeLeft : Ledger → ℕ → Left
-judgeLeft s n = leave theQueue (revealed s n (isQueuedFailed (s .table) theQueue n))
+judgeLeft s n = leave (kindOf (s .table) n) (revealed s n (isJudgedFailed (s .table) n))
 
 abbrev pub judgeAnswer : Bool → ℕ → Answer
 judgeAnswer true left = JudgedFailed left
@@ -176,7 +194,7 @@ judgeAnswer false left = Ready left
 unfoldable pub judge : Ledger → ℕ → Outcome
 judge s n =
     record {
-      answer = judgeAnswer (isQueuedFailed (s .table) theQueue n) (judgeLeft s n .many);
+      answer = judgeAnswer (isJudgedFailed (s .table) n) (judgeLeft s n .many);
       after = judgeLeft s n .after;
     }
 
@@ -185,12 +203,16 @@ judge s n =
 unfoldable pub abortTable : List ℕ → ℕ → List ℕ
 abortTable w n = fold (λ m now. cond (isAbortedBy w n m) (withState now m aborted) now) (actions w) w
 
--- the ledger after n and all live below it have gone, and before the head is tried
+-- n and all live below it taken out of both queues
+unfoldable pub outOfBoth : List ℕ → ℕ → List ℕ
+outOfBoth w n = withoutBelow (withoutBelow w topKind n) subKind n
+
+-- the ledger after n and all live below it have gone, and before a head is tried
 unfoldable pub dropped : Ledger → ℕ → Ledger
-dropped s n = withTable s (abortTable (withoutBelow (s .table) theQueue n) n)
+dropped s n = withTable s (abortTable (outOfBoth (s .table) n) n)
 
 unfoldable pub abortLeft : Ledger → ℕ → Left
-abortLeft s n = leave theQueue (dropped s n)
+abortLeft s n = leaveBoth (dropped s n)
 
 unfoldable pub abort : Ledger → ℕ → Outcome
 abort s n =
@@ -219,7 +241,7 @@ step s e =
     let cause = causeOf (s .table) (s .base) (s .shadow) e in
     cond (eqb cause 0) (act s e) (record { answer = Refused cause; after = s })
 
--- ---- RULES 6.1: who commits by leaving the queue at an event, in the order of leaving
+-- ---- RULES 6.1: who commits by leaving a queue at an event, in the order of leaving
 
 unfoldable pub actLeavers : Ledger → Event → List ℕ
 actLeavers s e =

@@ -2,7 +2,8 @@
 -- `word` and changed by `withWord` and by nothing else; both stay shut in what stands on them, which uses their laws
 -- (proofs/Laws/Words.antt). Assumes nothing.
 use Prim.Native.Nat.{ℕ, _+_, _-_, _*_, _≤_, _<_}
-use mathlib.Core.Bool.{Bool, not, _&&_}
+use mathlib.Core.Logic.{_⊎_}
+use mathlib.Core.Bool.{Bool, not, cond, _&&_}
 use mathlib.Core.List.{List}
 use lib.Dec.{eqb}
 use lib.IntN.{ℤ}
@@ -10,6 +11,7 @@ use lib.ListN.{getD, set, replicate}
 use Rattle.rules.specs.Range.{upFrom, any, filter, fold}
 use Rattle.rules.specs.Card.{accounts, isCharge, chargeAccounts}
 use Rattle.rules.specs.Amount.{amountOf}
+use Rattle.rules.specs.Kind.{topKind, kindUnder}
 
 -- RULES 1.3: how many actions a table sees in its life
 abbrev pub mostActions : ℕ
@@ -18,20 +20,16 @@ mostActions = 64
 abbrev pub IsAction : ℕ → Type 0
 IsAction n = (1 ≤ n) × (n ≤ mostActions)
 
--- the words of an action, at the front of its row; behind them stand those of the queue's position (Queue.antt)
-abbrev pub actionWidth : ℕ
-actionWidth = 83
-
 -- the words of a row
 abbrev pub width : ℕ
-width = 86
+width = 121
 
 abbrev pub IsField : ℕ → Type 0
 IsField f = f < width
 
 -- the words of a table: the head's row and a row for each action
 abbrev pub tableLength : ℕ
-tableLength = 5590
+tableLength = 7865
 
 -- word f of row n
 unfoldable pub word : List ℕ → ℕ → ℕ → ℕ
@@ -44,7 +42,7 @@ withWord w n f v = set w (width * n + f) v
 unfoldable pub withFields : List ℕ → ℕ → (ℕ → ℕ) → List ℕ → (ℕ → ℕ) → List ℕ
 withFields w n field ks values = fold (λ k now. withWord now n (field k) (values k)) ks w
 
--- RULES 1.6: no action, counter 0
+-- RULES 1.6: no action, both counters 0, both queues empty
 unfoldable pub newTable : List ℕ
 newTable = replicate tableLength 0
 
@@ -60,15 +58,18 @@ started w = word w 0 startedField
 abbrev pub withStarted : List ℕ → ℕ → List ℕ
 withStarted w v = withWord w 0 startedField v
 
--- RULES 1.6: the counter
-abbrev pub counterField : ℕ
-counterField = 1
+-- RULES 1.6: the counter of kind h
+abbrev pub counterFields : ℕ
+counterFields = 1
 
-abbrev pub counter : List ℕ → ℕ
-counter w = word w 0 counterField
+abbrev pub counterField : ℕ → ℕ
+counterField h = counterFields + h
 
-abbrev pub withCounter : List ℕ → ℕ → List ℕ
-withCounter w v = withWord w 0 counterField v
+abbrev pub counter : List ℕ → ℕ → ℕ
+counter w h = word w 0 (counterField h)
+
+abbrev pub withCounter : List ℕ → ℕ → ℕ → List ℕ
+withCounter w h v = withWord w 0 (counterField h) v
 
 -- ---- RULES 1.5: the parts of an action
 
@@ -82,6 +83,10 @@ parentOf w n = word w n parentField
 abbrev pub withParent : List ℕ → ℕ → ℕ → List ℕ
 withParent w n v = withWord w n parentField v
 
+-- its kind
+abbrev pub kindOf : List ℕ → ℕ → ℕ
+kindOf w n = kindUnder (parentOf w n)
+
 -- its state, one of the three below
 abbrev pub stateField : ℕ
 stateField = 1
@@ -92,7 +97,7 @@ stateOf w n = word w n stateField
 abbrev pub withState : List ℕ → ℕ → ℕ → List ℕ
 withState w n v = withWord w n stateField v
 
--- its end time
+-- its end time, of its kind
 abbrev pub endField : ℕ
 endField = 2
 
@@ -102,7 +107,7 @@ endTime w n = word w n endField
 abbrev pub withEndTime : List ℕ → ℕ → ℕ → List ℕ
 withEndTime w n v = withWord w n endField v
 
--- its read set: the entry of account k, 0 where k is not in the set, t + 1 where it was read at time t
+-- its read set: the entry of account k, 0 where k is not in the set, t + 1 where it was read at topaction time t
 abbrev pub readFields : ℕ
 readFields = 3
 
@@ -118,8 +123,22 @@ withRead w n k v = withWord w n (readField k) v
 abbrev pub hasRead : List ℕ → ℕ → ℕ → Bool
 hasRead w n k = not (eqb (readEntry w n k) 0)
 
-abbrev pub readTime : List ℕ → ℕ → ℕ → ℕ
-readTime w n k = readEntry w n k - 1
+-- the subaction time of that read, behind the queues' entries (Queue.antt); it says nothing where k is not in the set
+abbrev pub subTimeFields : ℕ
+subTimeFields = 89
+
+abbrev pub subTimeField : ℕ → ℕ
+subTimeField k = subTimeFields + k
+
+abbrev pub subTime : List ℕ → ℕ → ℕ → ℕ
+subTime w n k = word w n (subTimeField k)
+
+abbrev pub withSubTime : List ℕ → ℕ → ℕ → ℕ → List ℕ
+withSubTime w n k v = withWord w n (subTimeField k) v
+
+-- the read's time of kind h
+abbrev pub readTime : List ℕ → ℕ → ℕ → ℕ → ℕ
+readTime w h n k = cond (eqb h topKind) (readEntry w n k - 1) (subTime w n k)
 
 -- its write set: the entry of account k, 0 where k is not in the set, and what a write or a commit enters there
 abbrev pub writeFields : ℕ
@@ -185,13 +204,26 @@ ownAdds w n k = amountOf (ownAddsWord w n k)
 unfoldable pub withoutAdds : List ℕ → ℕ → List ℕ
 withoutAdds w n = withFields w n ownAddsField chargeAccounts (λ k. 0)
 
--- both sets of action n given anew: account k's read entry is reads k, its write entry writes k
-unfoldable pub withBothSets : List ℕ → ℕ → (ℕ → ℕ) → (ℕ → ℕ) → List ℕ
-withBothSets w n reads writes = withFields (withFields w n readField accounts reads) n writeField accounts writes
+-- the read set of action n given anew: account k's read entry is reads k, the subaction time beside it times k
+unfoldable pub withReads : List ℕ → ℕ → (ℕ → ℕ) → (ℕ → ℕ) → List ℕ
+withReads w n reads times = withFields (withFields w n readField accounts reads) n subTimeField accounts times
+
+-- .. and its write set: account k's write entry is writes k
+unfoldable pub withBothSets : List ℕ → ℕ → (ℕ → ℕ) → (ℕ → ℕ) → (ℕ → ℕ) → List ℕ
+withBothSets w n reads times writes = withFields (withReads w n reads times) n writeField accounts writes
 
 -- .. and its pending sums: the word of charge account k's is sums k
-unfoldable pub withSets : List ℕ → ℕ → (ℕ → ℕ) → (ℕ → ℕ) → (ℕ → ℕ) → List ℕ
-withSets w n reads writes sums = withFields (withBothSets w n reads writes) n pendingField chargeAccounts sums
+unfoldable pub withSets : List ℕ → ℕ → (ℕ → ℕ) → (ℕ → ℕ) → (ℕ → ℕ) → (ℕ → ℕ) → List ℕ
+withSets w n reads times writes sums = withFields (withBothSets w n reads times writes) n pendingField chargeAccounts sums
+
+-- ---- RULES 1.7: which words of a row are an action's
+
+-- those of the queues' entries stand from here on, up to the subaction times
+abbrev pub entryFields : ℕ
+entryFields = 83
+
+abbrev pub IsActionField : ℕ → Type 0
+IsActionField g = (g < entryFields) ⊎ ((subTimeFields ≤ g) × (g < width))
 
 -- ---- RULES 1.5: the states
 

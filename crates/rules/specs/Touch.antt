@@ -37,7 +37,7 @@ isCopied w n p i = any (λ k. hasCard w n k && isAmong cardLength (shadowPlace p
 abbrev pub isCommitting : List ℕ → Event → Bool
 isCommitting w e = isCommit e && isClear (firstClash w (e .number))
 
--- who commits at an event, by it or by leaving the queue
+-- who commits at an event, by it or by leaving a queue
 unfoldable pub committersAt : Ledger → Event → List ℕ
 committersAt s e = cond (isCommitting (s .table) e) (e .number ∷ []) (leaversAt s e)
 

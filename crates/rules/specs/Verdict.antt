@@ -1,4 +1,4 @@
--- RULES 4.7: the verdict of an action that enters the queue, settled there and then. Assumes nothing.
+-- RULES 4.7: the verdict of an action that enters its queue, settled there and then. Assumes nothing.
 use Prim.Native.Nat.{ℕ}
 use mathlib.Core.Bool.{Bool, not, cond, _&&_}
 use mathlib.Core.List.{List}
@@ -17,7 +17,7 @@ meets w n m = any (λ k. hasWritten w m k && hasRead w n k) accounts
 unfoldable pub isMetBy : List ℕ → ℕ → ℕ → Bool
 isMetBy w n m = eqb (parentOf w m) (parentOf w n) && meets w n m
 
--- one of those that are queued is
+-- one of those in queue h is
 unfoldable pub isMetInQueue : List ℕ → ℕ → ℕ → Bool
 isMetInQueue w h n = any (λ e. isMetBy w n (e .number)) (queue w h)
 

@@ -23,14 +23,14 @@ pub enum Answer {
     Written,
     Added,
     Entered,
-    // a judge's: how many then left the queue, where the verdict was good and where it was failed
+    // a judge's: how many then left the action's queue, where the verdict was good and where it was failed
     Ready(u64),
     JudgedFailed(u64),
     // the end time, 0 where nothing was written
     Committed(u64),
     // the end time and the account of the first clash
     Failed(u64, u64),
-    // how many actions became aborted, and how many then left the queue
+    // how many actions became aborted, and how many then left the two queues
     Aborted(u64, u64),
     // the number of the cause
     Refused(u64),

@@ -1,11 +1,9 @@
-// RULES 1.7 and 1.10: the words of the queue. Its length is a word of the head, the entry at position i three words of row i.
-// The number of the queue that there is.
-pub const THE_QUEUE: u64 = 0;
-
-// The first queue's length, in the head.
+// RULES 1.7 and 1.10: the words of the queues. A queue's length is a word of the head, its entry at position i three words of
+// row i; both stand by the kind of those who wait there.
+// The topactions' queue's length, in the head.
 pub const LENGTH_FIELDS: u64 = 3;
 
-// Behind the words of an action: the first queue's entry, and how many words an entry has.
+// The topactions' queue's entry, and how many words an entry has.
 pub const ENTRY_FIELDS: u64 = 83;
 
 pub const ENTRY_WIDTH: u64 = 3;

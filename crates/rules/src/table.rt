@@ -1,19 +1,24 @@
 // RULES 1.7: the table's words. Row 0 is the head, row n is action n.
 pub const MOST_ACTIONS: u64 = 64;
 
-pub const WIDTH: u64 = 86;
+pub const WIDTH: u64 = 121;
 
-pub const TABLE_LENGTH: usize = 5590;
+pub const TABLE_LENGTH: usize = 7865;
 
 // The number of the store, where an action's could stand, and the head's row.
 pub const STORE: u64 = 0;
 
 pub const HEAD: u64 = 0;
 
+// The kinds of action: topactions, and all others. The words of a counter and of a queue stand by the kind's number.
+pub const TOP: u64 = 0;
+
+pub const SUB: u64 = 1;
+
 // Words of the head.
 pub const STARTED_FIELD: u64 = 0;
 
-pub const COUNTER_FIELD: u64 = 1;
+pub const COUNTER_FIELDS: u64 = 1;
 
 // Words of an action; a read set and a write set have one for each account, from here on.
 pub const PARENT_FIELD: u64 = 0;
@@ -31,6 +36,9 @@ pub const PENDING_FIELDS: u64 = 43;
 
 // Its own adds stand this far behind it: the first charge account's directly behind the pending sums.
 pub const OWN_ADDS_FIELDS: u64 = 51;
+
+// The subaction times of a read set: for each account the one beside its read entry, from here on.
+pub const SUB_TIME_FIELDS: u64 = 89;
 
 // The moves up to a version that is where one stands, and those of a refused look.
 pub const NO_MOVES: u64 = 0;

@@ -1,4 +1,5 @@
 -- Facts that the proofs of the test use.
+mod BothKinds
 mod PendingWords
 mod QueueNumbers
 mod ReadTimes

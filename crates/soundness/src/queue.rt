@@ -1,9 +1,10 @@
-// The clauses on the queue: its length, and who waits there.
+// The clauses on the queues: their lengths, and who waits there.
 ghost use mathlib.Core.Path.{_≡_};
 ghost use Prim.Native.Nat.{_+_, _≤_};
 ghost use Rattle.rules.specs.Range.{all};
+ghost use Rattle.rules.specs.Kind.{IsKind, kinds};
 ghost use Rattle.rules.specs.Table.{mostActions};
-ghost use Rattle.rules.specs.Queue.{IsQueue, queueLength};
+ghost use Rattle.rules.specs.Queue.{queueLength};
 ghost use Rattle.rules.specs.Sound.{mayWait, areDistinct, queueNumbers, isSoundQueue};
 ghost use Rattle.rows.specs.Row.{HasRow, Scannable};
 ghost use Rattle.soundness.specs.Positions.{standsFrom};
@@ -11,15 +12,18 @@ use ancestry::children::has_live_child;
 use rows::entries::entry_number;
 use rows::entries::queue_length;
 use rows::fields::is_live;
+use rows::fields::kind_of;
 use rows::fields::last_start;
 use rules::queue::FIRST_POSITION;
 use rules::table::MOST_ACTIONS;
 use rules::table::STORE;
+use rules::table::SUB;
+use rules::table::TOP;
 
 // Any word may stand in an entry, so its row is looked at only where it is an action's number.
-fn may_wait(table: &[u64], n: u64) -> bool
+fn may_wait(table: &[u64], h: u64, n: u64) -> bool
     requires { ⌜ Scannable (now table) ⌝ }
-    ensures { λ r. ⌜ r ≡ mayWait (now (table .entry)) n ⌝ }
+    ensures { λ r. ⌜ r ≡ mayWait (now (table .entry)) h n ⌝ }
 {
     if n == STORE {
         return false;
@@ -30,18 +34,21 @@ fn may_wait(table: &[u64], n: u64) -> bool
     if !is_live(table, n) {
         return false;
     }
+    if kind_of(table, n) != h {
+        return false;
+    }
     !has_live_child(table, n)
 }
 
 fn all_may_wait(table: &[u64], h: u64) -> bool
     requires { ⌜ Scannable (now table) ⌝ }
-    requires { ⌜ IsQueue h ⌝ }
+    requires { ⌜ IsKind h ⌝ }
     requires { ⌜ queueLength (now table) h ≤ mostActions ⌝ }
-    ensures { λ r. ⌜ r ≡ all (mayWait (now (table .entry))) (queueNumbers (now (table .entry)) h) ⌝ }
+    ensures { λ r. ⌜ r ≡ all (mayWait (now (table .entry)) h) (queueNumbers (now (table .entry)) h) ⌝ }
 {
     let tail = queue_length(table, h);
     for i in FIRST_POSITION..tail + 1 {
-        if !may_wait(table, entry_number(table, h, i)) {
+        if !may_wait(table, h, entry_number(table, h, i)) {
             return false;
         }
     }
@@ -51,7 +58,7 @@ fn all_may_wait(table: &[u64], h: u64) -> bool
 // The number at position i stands at a later one too.
 fn stands_again(table: &[u64], h: u64, i: u64) -> bool
     requires { ⌜ HasRow (now table) i ⌝ }
-    requires { ⌜ IsQueue h ⌝ }
+    requires { ⌜ IsKind h ⌝ }
     requires { ⌜ queueLength (now table) h ≤ mostActions ⌝ }
     ensures { λ r. ⌜ r ≡ standsFrom (now (table .entry)) h i (i + 1) ⌝ }
 {
@@ -67,7 +74,7 @@ fn stands_again(table: &[u64], h: u64, i: u64) -> bool
 
 fn are_distinct(table: &[u64], h: u64) -> bool
     requires { ⌜ HasRow (now table) 0 ⌝ }
-    requires { ⌜ IsQueue h ⌝ }
+    requires { ⌜ IsKind h ⌝ }
     requires { ⌜ queueLength (now table) h ≤ mostActions ⌝ }
     ensures { λ r. ⌜ r ≡ areDistinct (queueNumbers (now (table .entry)) h) ⌝ }
 {
@@ -80,9 +87,9 @@ fn are_distinct(table: &[u64], h: u64) -> bool
     true
 }
 
-pub(crate) fn is_sound_queue(table: &[u64], h: u64) -> bool
+fn is_sound_queue(table: &[u64], h: u64) -> bool
     requires { ⌜ Scannable (now table) ⌝ }
-    requires { ⌜ IsQueue h ⌝ }
+    requires { ⌜ IsKind h ⌝ }
     ensures { λ r. ⌜ r ≡ isSoundQueue (now (table .entry)) h ⌝ }
 {
     if MOST_ACTIONS < queue_length(table, h) {
@@ -92,4 +99,14 @@ pub(crate) fn is_sound_queue(table: &[u64], h: u64) -> bool
         return false;
     }
     are_distinct(table, h)
+}
+
+pub(crate) fn are_sound_queues(table: &[u64]) -> bool
+    requires { ⌜ Scannable (now table) ⌝ }
+    ensures { λ r. ⌜ r ≡ all (isSoundQueue (now (table .entry))) kinds ⌝ }
+{
+    if !is_sound_queue(table, TOP) {
+        return false;
+    }
+    is_sound_queue(table, SUB)
 }

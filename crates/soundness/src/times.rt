@@ -1,37 +1,33 @@
 // The clauses on times, of one action: its reads, and its end.
 ghost use mathlib.Core.Path.{_≡_};
-ghost use mathlib.Core.Bool.{not, _||_};
-ghost use Prim.Native.Nat.{_-_, max};
-ghost use lib.Dec.{eqb, leb};
-ghost use Rattle.rules.specs.Sound.{hasReadInTime, hasEndInTime, sharesEndTime, hasEndAlone};
+ghost use Rattle.rules.specs.Kind.{IsKind};
+ghost use Rattle.rules.specs.Sound.{hasTimesIn, hasReadInTime, hasEndInTime, sharesEndTime, hasEndAlone};
 ghost use Rattle.rows.specs.Row.{HasRow};
-use rows::fields::counter;
-use rows::fields::end_time;
 use rows::fields::is_live;
 use rows::fields::parent;
-use rows::fields::read_entry;
 use rows::sets::has_ended;
+use rows::times::counter;
+use rows::times::end_together;
+use rows::times::ends_in_time;
+use rows::times::is_in_time;
+use rows::times::later_read;
 use rules::store::ACCOUNTS;
-use rules::table::FIRST_END;
-use rules::table::NO_ENTRY;
+use rules::table::SUB;
+use rules::table::TOP;
 
-// An entry of a read set is one more than its time.
-fn is_in_time(entry: u64, limit: u64) -> bool
-    ensures { λ r. ⌜ r ≡ (not (not (eqb entry 0)) || leb (entry - 1) limit) ⌝ }
+// The latest time alone is asked, so that the loop has no branch; it is the counter itself where no read is later.
+fn has_times_in(table: &[u64], n: u64, h: u64) -> bool
+    requires { ⌜ HasRow (now table) n ⌝ }
+    requires { ⌜ IsKind h ⌝ }
+    ensures { λ r. ⌜ r ≡ hasTimesIn (now (table .entry)) n h ⌝ }
 {
-    if entry == NO_ENTRY {
-        return true;
+    let mut latest = counter(table, h);
+    for k in 0..ACCOUNTS {
+        latest = later_read(table, n, k, latest);
     }
-    entry - 1 <= limit
+    is_in_time(table, latest)
 }
 
-fn later(a: u64, b: u64) -> u64
-    ensures { λ r. ⌜ r ≡ max a b ⌝ }
-{
-    if a < b { b } else { a }
-}
-
-// The latest read alone is compared, so that the loop has no branch.
 pub(crate) fn has_read_in_time(table: &[u64], n: u64) -> bool
     requires { ⌜ HasRow (now table) n ⌝ }
     ensures { λ r. ⌜ r ≡ hasReadInTime (now (table .entry)) n ⌝ }
@@ -39,11 +35,10 @@ pub(crate) fn has_read_in_time(table: &[u64], n: u64) -> bool
     if !is_live(table, n) {
         return true;
     }
-    let mut latest = NO_ENTRY;
-    for k in 0..ACCOUNTS {
-        latest = later(read_entry(table, n, k), latest);
+    if !has_times_in(table, n, TOP) {
+        return false;
     }
-    is_in_time(latest, counter(table))
+    has_times_in(table, n, SUB)
 }
 
 pub(crate) fn has_end_in_time(table: &[u64], n: u64) -> bool
@@ -53,23 +48,19 @@ pub(crate) fn has_end_in_time(table: &[u64], n: u64) -> bool
     if !has_ended(table, n) {
         return true;
     }
-    let end = end_time(table, n);
-    if end < FIRST_END {
-        return false;
-    }
-    end <= counter(table)
+    ends_in_time(table, n)
 }
 
-// The end times first: of most pairs they differ.
+// The parents first: only actions of one kind have end times that can be compared.
 fn shares_end_time(table: &[u64], n: u64, m: u64) -> bool
     requires { ⌜ HasRow (now table) n ⌝ }
     requires { ⌜ HasRow (now table) m ⌝ }
     ensures { λ r. ⌜ r ≡ sharesEndTime (now (table .entry)) n m ⌝ }
 {
-    if end_time(table, m) != end_time(table, n) {
+    if parent(table, m) != parent(table, n) {
         return false;
     }
-    if parent(table, m) != parent(table, n) {
+    if !end_together(table, m, n) {
         return false;
     }
     has_ended(table, m)

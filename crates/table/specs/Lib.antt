@@ -1,2 +1,2 @@
--- What opening a table gives back; its two numbers are definitions of the rules.
+-- What opening a table gives back; its three numbers are definitions of the rules.
 pub mod Open

@@ -1,16 +1,21 @@
-// A new table, and a table's two numbers: all that a caller asks of a table outside of events.
+// A new table, and a table's three numbers: all that a caller asks of a table outside of events.
 ghost use mathlib.Core.Path.{_≡_};
+ghost use Rattle.rules.specs.Kind.{topKind, subKind};
 ghost use Rattle.rules.specs.Table.{started, counter};
 ghost use Rattle.table.specs.Open.{openCause, openTable};
 use rules::cause;
-use rules::table::COUNTER_FIELD;
+use rules::table::COUNTER_FIELDS;
 use rules::table::STARTED_FIELD;
+use rules::table::SUB;
 use rules::table::TABLE_LENGTH;
+use rules::table::TOP;
 
 // The head is the table's first row, so that its fields stand where they are numbered.
 const STARTED_AT: usize = STARTED_FIELD as usize;
 
-const COUNTER_AT: usize = COUNTER_FIELD as usize;
+const TOP_COUNTER_AT: usize = (COUNTER_FIELDS + TOP) as usize;
+
+const SUB_COUNTER_AT: usize = (COUNTER_FIELDS + SUB) as usize;
 
 // A new table in a lent buffer, whatever stood there; back comes the cause. A buffer of another length stays as it was.
 pub fn open(table: &mut [u64]) -> u64
@@ -38,12 +43,22 @@ pub fn started(table: &[u64]) -> u64
     table[STARTED_AT]
 }
 
-// The counter, of any table: 0 where it has no such word.
-pub fn counter(table: &[u64]) -> u64
-    ensures { λ r. ⌜ r ≡ counter (now (table .entry)) ⌝ }
+// The topactions' counter, of any table: 0 where it has no such word.
+pub fn top_counter(table: &[u64]) -> u64
+    ensures { λ r. ⌜ r ≡ counter (now (table .entry)) topKind ⌝ }
 {
-    if table.len() <= COUNTER_AT {
+    if table.len() <= TOP_COUNTER_AT {
         return 0;
     }
-    table[COUNTER_AT]
+    table[TOP_COUNTER_AT]
+}
+
+// The subactions' counter, of any table: 0 where it has no such word.
+pub fn sub_counter(table: &[u64]) -> u64
+    ensures { λ r. ⌜ r ≡ counter (now (table .entry)) subKind ⌝ }
+{
+    if table.len() <= SUB_COUNTER_AT {
+        return 0;
+    }
+    table[SUB_COUNTER_AT]
 }

@@ -1,2 +1,3 @@
--- Where the search begins.
+-- Where the search begins, and how it goes on.
 pub mod FirstRead
+pub mod NextRecord

@@ -1,23 +1,26 @@
 // The search for the first clash: records by rising end time, accounts rising, both left at the first clash.
 ghost use mathlib.Core.Path.{_≡_};
-ghost use Prim.Native.Nat.{_-_, min};
-ghost use mathlib.Core.Bool.{not, cond};
-ghost use lib.Dec.{eqb};
 ghost use Rattle.rules.specs.Card.{IsAccount};
+ghost use Rattle.rules.specs.Table.{kindOf};
 ghost use Rattle.rules.specs.Sound.{IsStarted, Sound};
 ghost use Rattle.rules.specs.Clash.{isClash, firstClash};
 ghost use Rattle.rows.specs.Row.{HasRow};
+ghost use Rattle.rows.specs.Times.{IsTime};
 ghost use Rattle.validation.specs.FirstRead.{firstRead};
 use crate::records::NO_RECORD;
 use crate::records::next_record;
-use rows::fields::counter;
-use rows::fields::end_time;
+use rows::fields::has_read;
 use rows::fields::has_written;
+use rows::fields::kind_of;
 use rows::fields::parent;
-use rows::fields::read_entry;
+use rows::times::Time;
+use rows::times::counter;
+use rows::times::end_of;
+use rows::times::number_of;
+use rows::times::read_before_end;
+use rows::times::sooner_read;
 use rules::Found;
 use rules::store::ACCOUNTS;
-use rules::table::NO_ENTRY;
 
 fn is_clash(table: &[u64], n: u64, m: u64, k: u64) -> bool
     requires { ⌜ HasRow (now table) n ⌝ }
@@ -28,31 +31,22 @@ fn is_clash(table: &[u64], n: u64, m: u64, k: u64) -> bool
     if !has_written(table, m, k) {
         return false;
     }
-    let entry = read_entry(table, n, k);
-    if entry == NO_ENTRY {
+    if !has_read(table, n, k) {
         return false;
     }
-    entry - 1 < end_time(table, m)
+    read_before_end(table, n, m, k)
 }
 
-// The smaller of a time and that of a read set's entry, which is one more; an entry of 0 has none.
-fn sooner_read(entry: u64, first: u64) -> u64
-    ensures { λ r. ⌜ r ≡ cond (not (eqb entry 0)) (min (entry - 1) first) first ⌝ }
-{
-    if entry == NO_ENTRY {
-        return first;
-    }
-    if entry - 1 < first { entry - 1 } else { first }
-}
-
-fn first_read(table: &[u64], n: u64) -> u64
+// Of n's kind, as the records of its parent are.
+fn first_read(table: &[u64], n: u64) -> Time
     requires { ⌜ HasRow (now table) 0 ⌝ }
     requires { ⌜ HasRow (now table) n ⌝ }
-    ensures { λ r. ⌜ r ≡ firstRead (now (table .entry)) n ⌝ }
+    ensures { λ r. ⌜ IsTime r (kindOf (now (table .entry)) n)
+        (firstRead (now (table .entry)) (kindOf (now (table .entry)) n) n) ⌝ }
 {
-    let mut first = counter(table);
+    let mut first = counter(table, kind_of(table, n));
     for k in 0..ACCOUNTS {
-        first = sooner_read(read_entry(table, n, k), first);
+        first = sooner_read(table, n, k, first);
     }
     first
 }
@@ -70,14 +64,14 @@ pub fn first_clash(table: &[u64], n: u64) -> Found
         if m == NO_RECORD {
             break 'records Found::Nothing;
         }
-        last = end_time(table, m);
+        last = end_of(table, m);
         let mut k = 0;
         'accounts: loop {
             if ACCOUNTS <= k {
                 break 'accounts;
             }
             if is_clash(table, n, m, k) {
-                break 'records Found::At(last, k);
+                break 'records Found::At(number_of(last), k);
             }
             k += 1;
         }

@@ -11,7 +11,7 @@ use borrow.Author.Tests.{ltb-true, ltb-false, le-ltb, leb-true, leb-false, eqb-t
 use Rattle.rules.specs.declared.Answer.the-variants.{Committed, Failed}
 use Rattle.rules.specs.Range.{filter}
 use Rattle.rules.specs.Card.{accountCount, accounts}
-use Rattle.rules.specs.Table.{started, parentOf, endTime, hasRead, readTime, hasWritten, actions, isRecordOf, records}
+use Rattle.rules.specs.Table.{started, parentOf, kindOf, endTime, hasRead, readTime, hasWritten, actions, isRecordOf, records}
 use Rattle.rules.specs.Sound.{IsStarted}
 use Rattle.rules.specs.declared.Found.{Found}
 use Rattle.rules.specs.declared.Found.the-variants.{Nothing, At}
@@ -107,9 +107,10 @@ pub clash-was-read : (w : List ℕ) (n m k : ℕ) → isClash w n m k ≡ true �
 clash-was-read w n m k h = and-right (hasWritten w m k) (hasRead w n k) (and-left (hasWritten w m k && hasRead w n k) _ h)
 
 -- a read at the time at which the record ended, or later, doesn't clash with it
-pub later-read-never-clashes : (w : List ℕ) (n m k : ℕ) → endTime w m ≤ readTime w n k → isClash w n m k ≡ false
+pub later-read-never-clashes : (w : List ℕ) (n m k : ℕ) → endTime w m ≤ readTime w (kindOf w m) n k → isClash w n m k ≡ false
 later-read-never-clashes w n m k later =
-    rw (le-ltb (readTime w n k) (endTime w m) later) (and-false (hasWritten w m k && hasRead w n k))
+    ap (_&&_ (hasWritten w m k && hasRead w n k)) (le-ltb (readTime w (kindOf w m) n k) (endTime w m) later)
+    ∙ and-false (hasWritten w m k && hasRead w n k)
 
 -- RULES 4.2: an action that has read nothing never clashes
 pub unread-never-clashes :

@@ -9,6 +9,7 @@ use mathlib.Core.List.{List, [], _∷_, List·Memᴰ, List·Memᴰ·head, List·
 use lib.Dec.{ltb}
 use borrow.Author.Tests.{ltb-true, ltb-false, lt-ltb, le-ltb, eqb-true, eq-eqb, ne-eqb}
 use Rattle.rules.specs.Range.{count}
+use Rattle.rules.specs.Kind.{kindUnder}
 use Rattle.rules.specs.Table.{hasEnd, started, counter, parentOf, endTime, actions, isChildOf, isRecordOf, records}
 use Rattle.rules.specs.Sound.{IsStarted, Sound}
 use Rattle.rules.specs.Search.{nextAfter}
@@ -91,7 +92,7 @@ module _ (w : List ℕ) (t : ℕ) where
 
 -- ---- the records of a parent
 
-record-parent : (w : List ℕ) (p m : ℕ) → isRecordOf w p m ≡ true → parentOf w m ≡ p
+pub record-parent : (w : List ℕ) (p m : ℕ) → isRecordOf w p m ≡ true → parentOf w m ≡ p
 unfolding isRecordOf
 record-parent w p m h =
     eqb-true (parentOf w m) p (and-left (isChildOf w p m) (hasEnd w m) h)
@@ -116,16 +117,17 @@ sound-apart {w} s p m x a b e =
 pub positive : (w : List ℕ) (p x : ℕ) → List·Memᴰ x (records w p) → 1 ≤ x
 positive w p x r = in-records w p x .0 r .0 .0
 
--- in a sound table the next record is a started action, and ends above t and within the counter
+-- in a sound table the next record is a started action, and ends above t and within the counter of its kind
 pub next-started :
     {w : List ℕ} → Sound w → (p t m : ℕ) → m ≡ nextAfter w t (records w p) → m ≢ 0 →
-    IsStarted w m × (t < endTime w m) × (endTime w m ≤ counter w)
+    IsStarted w m × (t < endTime w m) × (endTime w m ≤ counter w (kindUnder p))
 next-started {w} s p t m e ne =
     ⊎-elim
     (λ empty. absurd (ne (e ∙ empty .0)))
     (λ is.
     let next = in-records w p (nextAfter w t (records w p)) .0 (is .member) in
-    rw e (next .0, is .above, s .ends _ (next .0) (record-has-end w p _ (next .1)) .1))
+    let inTime = rw (record-parent w p _ (next .1)) at (s .ends _ (next .0) (record-has-end w p _ (next .1)) .1) in
+    rw e (next .0, is .above, inTime))
     (nextAfter-finds w t (records w p) (positive w p))
 
 -- ---- how many records there are behind a time

@@ -11,7 +11,7 @@ use lib.Dec.{ltb, eqb}
 use borrow.Author.Tests.{ltb-true, eq-eqb, ne-eqb}
 use Rattle.rules.specs.Range.{upFrom}
 use Rattle.rules.specs.Card.{accountCount, accounts}
-use Rattle.rules.specs.Table.{mostActions, started, parentOf, endTime, hasRead, readTime, hasWritten, isRecordOf, records}
+use Rattle.rules.specs.Table.{mostActions, started, parentOf, kindOf, endTime, hasRead, readTime, hasWritten, isRecordOf, records}
 use Rattle.rules.specs.Sound.{IsStarted, Sound}
 use Rattle.rules.specs.declared.Found.{Found}
 use Rattle.rules.specs.declared.Found.the-variants.{Nothing}
@@ -20,7 +20,7 @@ use Rattle.rules.specs.Search.{nextAfter, searchAccounts, searchRecords,
 use Rattle.rules.proofs.Laws.Tests.{and-right, test, not-both}
 use Rattle.rules.proofs.Laws.Ranges.{Within}
 use Rattle.rules.proofs.Clash.Clashes.{in-records, IsClashing, in-clashes, clash-was-read, IsFirstOf, Finds, finds-none, finds-at, finds-once, finds-same, firstClash-finds}
-use Rattle.rules.proofs.Clash.Records.{IsNext, NoneAfter, nextAfter-finds, RecordsApart, sound-apart, positive, later, later-at-most, none-later, fewer-later}
+use Rattle.rules.proofs.Clash.Records.{record-parent, IsNext, NoneAfter, nextAfter-finds, RecordsApart, sound-apart, positive, later, later-at-most, none-later, fewer-later}
 
 -- ---- the accounts of one record
 
@@ -181,21 +181,25 @@ module _ (w : List ℕ) (n : ℕ) (s : Searchable w n) where
 -- What ended by the action's first read can't clash with it, so the search may begin at that time.
 pub search-after-finds :
     (w : List ℕ) (n : ℕ) → Searchable w n →
-    (t : ℕ) → ((k : ℕ) → k < accountCount → hasRead w n k ≡ true → t ≤ readTime w n k) → searchAfter w n t ≡ firstClash w n
+    (t : ℕ) → ((k : ℕ) → k < accountCount → hasRead w n k ≡ true → t ≤ readTime w (kindOf w n) n k) → searchAfter w n t ≡ firstClash w n
 search-after-finds w n s t first =
     finds-once
     (finds-same every-clash-after (searchRecords-finds w n s mostActions t (rounds-enough w n s t)))
     (finds-same (in-clashes w n) (firstClash-finds w n))
   where
-    read-before : (m k : ℕ) → isClash w n m k ≡ true → readTime w n k < endTime w m
-    read-before m k h = ltb-true _ _ (and-right (hasWritten w m k && hasRead w n k) (ltb (readTime w n k) (endTime w m)) h)
+    -- a record of n's parent is of n's kind
+    read-before :
+        (m k : ℕ) → isRecordOf w (parentOf w n) m ≡ true → isClash w n m k ≡ true → readTime w (kindOf w n) n k < endTime w m
+    read-before m k is h =
+        let below = and-right (hasWritten w m k && hasRead w n k) (ltb (readTime w (kindOf w m) n k) (endTime w m)) h in
+        rw (record-parent w (parentOf w n) m is) at (ltb-true (readTime w (kindOf w m) n k) (endTime w m) below)
 
     every-clash-after : (c : Pair) → ClashAfter w n t c ↔ IsClashing w n c
     every-clash-after c = (
       λ h. h .0,
       λ h.
           let read = first (c .account) (h .known) (clash-was-read w n (c .holder) (c .account) (h .clash)) in
-          (h, omega (arith, read, read-before (c .holder) (c .account) (h .clash))),
+          (h, omega (arith, read, read-before (c .holder) (c .account) (h .isRecord) (h .clash))),
     )
 
 -- RULES 4.4: the search from time 0 on

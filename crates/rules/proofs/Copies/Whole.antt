@@ -9,10 +9,12 @@ use lib.ListN.{length}
 use borrow.Author.Tests.{eq-eqb, ne-eqb}
 use Rattle.rules.specs.Card.{accountCount, accounts, isCharge, basePlace, shadowPlace, cardAt}
 use Rattle.rules.specs.Amount.{baseAmount}
-use Rattle.rules.specs.Table.{mostActions, tableLength, word, counterField, counter, writeField, hasWritten, hasWrites, hasCard, pendingField, pendingWord}
+use Rattle.rules.specs.Kind.{IsKind}
+use Rattle.rules.specs.Table.{mostActions, tableLength, word, counterField, counter, parentField, parentOf, kindOf, writeField, hasWritten, hasWrites, hasCard, pendingField, pendingWord}
 use Rattle.rules.specs.Ledger.{Ledger}
 use Rattle.rules.specs.Held.{heldCard}
 use Rattle.rules.specs.Commit.{copiedDown, commitTime}
+use Rattle.rules.proofs.Laws.Kinds.{kind-known}
 use Rattle.rules.proofs.Laws.Ranges.{any-agree}
 use Rattle.rules.proofs.Copies.Turns.{addedWord, settledCard, turn-sum, CanCopy, turn-base-card, turn-parent-card}
 use Rattle.rules.proofs.Copies.Falling.{copied-next}
@@ -95,9 +97,16 @@ module _ (s : Ledger) (n p : ℕ) where
       any-agree (hasWritten (copiedDown s n p 0 .table) n) (hasWritten (s .table) n) 0 accountCount
       (λ k h. rw (all-copied .sameField n (writeField k) (omega arith) (inl (omega arith))) refl)
 
-  pub copied-counter : counter (copiedDown s n p 0 .table) ≡ counter (s .table)
-  copied-counter = all-copied .sameField 0 counterField (omega arith) (inl (omega arith))
+  pub copied-parent : parentOf (copiedDown s n p 0 .table) n ≡ parentOf (s .table) n
+  copied-parent = all-copied .sameField n parentField (omega arith) (inl (omega arith))
+
+  pub copied-counter : (h : ℕ) → IsKind h → counter (copiedDown s n p 0 .table) h ≡ counter (s .table) h
+  copied-counter h known = all-copied .sameField 0 (counterField h) (omega arith) (inl (omega arith))
+
+  pub copied-own-counter :
+      counter (copiedDown s n p 0 .table) (kindOf (copiedDown s n p 0 .table) n) ≡ counter (s .table) (kindOf (s .table) n)
+  copied-own-counter = rw copied-parent (copied-counter (kindOf (s .table) n) (kind-known _))
 
   pub copied-time : commitTime (copiedDown s n p 0 .table) n ≡ commitTime (s .table) n
   unfolding commitTime
-  copied-time = rw (copied-writes, copied-counter) refl
+  copied-time = rw (copied-writes, copied-parent, copied-counter (kindOf (s .table) n) (kind-known _)) refl

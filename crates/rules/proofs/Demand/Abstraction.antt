@@ -6,6 +6,7 @@ use mathlib.Core.Bool.{Bool, true, cond, _&&_}
 use mathlib.Core.List.{List}
 use lib.Dec.{leb, ltb, eqb}
 use Rattle.rules.specs.Card.{accountCount, isCharge, basePlace, shadowPlace, cardAt}
+use Rattle.rules.specs.Kind.{kindUnder}
 use Rattle.rules.specs.Table.{mostActions, started, parentOf, endTime, hasRead, readTime, hasWritten, pendingSum, isLive, isRecordOf}
 use Rattle.rules.specs.Walk.{walkUp}
 use Rattle.rules.specs.Sound.{IsStarted}
@@ -49,10 +50,10 @@ abstraction s =
       view = viewOf s;
     }
 
--- since X read k, a child of Q has committed with k in its write set
+-- since X read k, a child of Q has committed with k in its write set: by the read's time of the kind of Q's children
 pub record Stale (s : Ledger) (X Q k : ℕ) : Type 0 where
   pub holder : ℕ
   pub begun : IsStarted (s .table) holder
   pub isRecord : isRecordOf (s .table) Q holder ≡ true
   pub written : hasWritten (s .table) holder k ≡ true
-  pub later : readTime (s .table) X k < endTime (s .table) holder
+  pub later : readTime (s .table) (kindUnder Q) X k < endTime (s .table) holder

@@ -1,5 +1,5 @@
 -- An add as demand 3's proof sees it: its amount is laid on the account of the one that adds. Assumes nothing.
-use Prim.Native.Nat.{ℕ, _<_}
+use Prim.Native.Nat.{ℕ, _≤_, _<_}
 use native.Mathlib.Omega.{arith}
 use mathlib.Core.Path.{_≡_, refl, sym, ap, _∙_}
 use mathlib.Core.Logic.{_⊎_, inl, inr, _≢_}
@@ -8,8 +8,8 @@ use mathlib.Core.List.{List}
 use lib.IntN.{_+ℤ_}
 use Rattle.rules.specs.Card.{accountCount, IsCharge}
 use Rattle.rules.specs.Amount.{amountOf, isAmount, amountIn}
-use Rattle.rules.specs.Table.{word, writeField, writeEntry, pendingField, pendingWord, pendingSum}
-use Rattle.rules.specs.Queue.{theQueue, queueLengthField}
+use Rattle.rules.specs.Table.{entryFields, width, word, subTimeField, writeField, writeEntry, pendingField, pendingWord, pendingSum}
+use Rattle.rules.specs.Queue.{queueLengthField}
 use Rattle.rules.specs.Ledger.{Ledger}
 use Rattle.rules.specs.Step.{addTable, add}
 use Rattle.rules.specs.Serial.Effect.{adds, lay}
@@ -17,6 +17,7 @@ use Rattle.rules.proofs.Laws.Amounts.{amount-read-back}
 use Rattle.rules.proofs.Laws.Permitted.{Touchable}
 use Rattle.rules.proofs.Sound.TableChanges.{TableChange}
 use Rattle.rules.proofs.Sound.Adding.{firstOwnAdds, add-keeps-field, add-keeps-behind, add-keeps-row, add-entry, add-pending, add-change}
+use Rattle.rules.proofs.Sound.QueueChanges.{action-width}
 use Rattle.rules.proofs.Demand.Abstraction.{effectOf}
 use Rattle.rules.proofs.Demand.Proper.{Proper}
 use Rattle.rules.proofs.Demand.AbstractionLaws.{effect-sum, sum-laid}
@@ -41,8 +42,11 @@ module _
   field-kept : (m g : ℕ) → g < firstOwnAdds → g ≢ writeField k → g ≢ pendingField k → word table′ m g ≡ word (s .table) m g
   field-kept = add-keeps-field (s .table) (proper .sound) n k own alive charge (amountIn card)
 
+  behind-kept : (m g : ℕ) → entryFields ≤ g → g < width → word table′ m g ≡ word (s .table) m g
+  behind-kept = add-keeps-behind (s .table) (proper .sound) n k own alive charge (amountIn card)
+
   row-kept : (m : ℕ) → m ≢ n → RowKept (s .table) table′ m
-  row-kept m other g h = add-keeps-row (s .table) (proper .sound) n k own alive charge (amountIn card) m g (omega arith) other
+  row-kept m other g h = add-keeps-row (s .table) (proper .sound) n k own alive charge (amountIn card) m g (action-width g h) other
 
   -- ---- effects
 
@@ -57,11 +61,11 @@ module _
       ∙ ap adds sum-after ∙ sym (sum-laid s proper n k own charge (amountIn card))
 
   entry-elsewhere : (X j : ℕ) → j < accountCount → (X ≢ n) ⊎ (j ≢ k) → writeEntry table′ X j ≡ writeEntry (s .table) X j
-  entry-elsewhere X j h (inl other) = row-kept X other (writeField j) (omega arith)
+  entry-elsewhere X j h (inl other) = row-kept X other (writeField j) (inl (omega arith))
   entry-elsewhere X j h (inr other) = field-kept X (writeField j) (omega arith) (λ z. other (omega arith)) (λ z. omega arith)
 
   sum-elsewhere : (X j : ℕ) → IsCharge j → (X ≢ n) ⊎ (j ≢ k) → pendingWord table′ X j ≡ pendingWord (s .table) X j
-  sum-elsewhere X j h (inl other) = row-kept X other (pendingField j) (omega arith)
+  sum-elsewhere X j h (inl other) = row-kept X other (pendingField j) (inl (omega arith))
   sum-elsewhere X j h (inr other) = field-kept X (pendingField j) (omega arith) (λ z. omega arith) (λ z. other (omega arith))
 
   pub add-enters : Entering s (add s n k card .after) n k (adds (amountIn card))
@@ -73,10 +77,12 @@ module _
         change = table-change;
         fields = λ m g h. field-kept m g (omega arith) (λ z. omega arith) (λ z. omega arith);
         rows = row-kept;
+        subTimes = λ m j h. behind-kept m (subTimeField j) (omega arith) (omega arith);
         sameLine =
+            λ h known.
             record {
-              sameLength = field-kept 0 (queueLengthField theQueue) (omega arith) (λ z. omega arith) (λ z. omega arith);
-              sameEntries = λ i g _. add-keeps-behind (s .table) (proper .sound) n k own alive charge (amountIn card) i g;
+              sameLength = field-kept 0 (queueLengthField h) (omega arith) (λ z. omega arith) (λ z. omega arith);
+              sameEntries = λ i g _ first last. behind-kept i g (omega arith) (omega arith);
             };
         laid = effect-laid;
         elsewhere = λ X j begun other.

@@ -1,7 +1,9 @@
 -- The rule by which commits are judged, RULES 4.2: backwards, by what has committed since the reads. Assumes nothing.
+use Prim.Native.Nat.{ℕ}
 use mathlib.Core.Path.{_≡_, refl}
 use Rattle.rules.specs.Range.{upFrom}
-use Rattle.rules.specs.Queue.{theQueue, queueLength, queue}
+use Rattle.rules.specs.Kind.{IsKind}
+use Rattle.rules.specs.Queue.{queueLength, queue}
 use Rattle.rules.specs.Ledger.{Ledger}
 use Rattle.rules.proofs.Serial.Stale.{stale-rule}
 use Rattle.rules.proofs.Demand.Abstraction.{abstraction, Stale}
@@ -18,12 +20,12 @@ use Rattle.rules.proofs.Demand.CommitStale.{stale-at-commit}
 use Rattle.rules.proofs.Demand.Waiting.{Waits}
 use Rattle.rules.proofs.Demand.WaitingSteps.{Waiting, waits-start, waits-read, waits-entering, waits-fail, waits-abort}
 use Rattle.rules.proofs.Demand.WaitingQueue.{waits-enter, waits-ready, waits-out}
-use Rattle.rules.proofs.Demand.WaitingHead.{head-passes, waits-head-committed}
+use Rattle.rules.proofs.Demand.WaitingHead.{waits-commit, head-passes, waits-head-committed}
 
--- nothing is asked of an empty queue
-none-waits : (s : Ledger) → queueLength (s .table) theQueue ≡ 0 → Waiting s
+-- nothing is asked of empty queues
+none-waits : (s : Ledger) → ((h : ℕ) → IsKind h → queueLength (s .table) h ≡ 0) → Waiting s
 unfolding queue upFrom Waits
-none-waits s empty = rw empty tt
+none-waits s empty h known = rw (empty h known) tt
 
 backward-waits : WaitingRule (stale-rule abstraction Stale)
 backward-waits =
@@ -39,6 +41,7 @@ backward-waits =
       waits-enter = waits-enter;
       waits-ready = waits-ready;
       waits-out = waits-out;
+      waits-commit = λ s proper n free. waits-commit proper free;
       head-passes = head-passes;
       waits-head-committed = waits-head-committed;
     }

@@ -68,7 +68,7 @@ same-parents nobody-new kept known X l′ =
 -- J, got, ground and opening as above, at place i, from a state and what is collected before it to the state after
 module _
     (J : JudgingRule) (got ground opening : ℕ → AccountValue) {s : Ledger} {c : Known} (kept : Kept J got ground opening s c) (i : ℕ) where
-  -- some are dropped, or the queue changes: no block does
+  -- some are dropped, or a queue changes: no block does
   pub drop-kept :
       (s′ : Ledger) → Proper s′ → Drop (abstraction s) (abstraction s′) → J .rule .CalmFacts s s′ → J .waits .Waiting s′ →
       Kept J got ground opening s′ c

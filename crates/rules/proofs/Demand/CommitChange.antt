@@ -21,7 +21,7 @@ use Rattle.rules.proofs.Demand.Abstraction.{effectOf, abstraction}
 use Rattle.rules.proofs.Demand.Proper.{Proper}
 use Rattle.rules.proofs.Demand.AbstractionLaws.{alive-started, live-alive, read-account, account-read, card-hides, abstract-tree}
 use Rattle.rules.proofs.Demand.Views.{was-alive, same-parent}
-use Rattle.rules.proofs.Demand.CommitTable.{entry-has-read, table-change, still-alive-other, read-joined, read-kept}
+use Rattle.rules.proofs.Demand.CommitTable.{table-change, still-alive-other, read-joined, read-kept}
 use Rattle.rules.proofs.Demand.CommitCards.{commit-base-length, commit-shadow-length, commit-base-same, commit-effect-kept}
 use Rattle.rules.proofs.Demand.CommitLaid.{commit-base-laid, commit-effect-laid}
 
@@ -48,7 +48,7 @@ module _
         parent-kept = λ X x. same-parent (table-change proper judged under) X (x .before);
         reads-kept = λ X k x has.
             account-read table′ X k (read-account (s .table) X k has)
-            (entry-has-read table′ X k (read-kept proper judged under k X (x .before) (x .after) has .0));
+            (read-kept proper judged under k X (x .before) (x .after) has .has);
         eff-kept = λ X k x other.
             commit-effect-kept proper judged under X k (alive-started (s .table) X (x .before))
             (still-alive-other proper judged under X (x .after)) other;
@@ -70,6 +70,6 @@ module _
             let account = read-account (s .table) n k has in
             ⊎-elim
             (λ card. inr (card-hides s p k account card))
-            (λ bare. inl (account-read table′ p k account (entry-has-read table′ p k (read-joined proper judged under k l′ has bare .0))))
+            (λ bare. inl (account-read table′ p k account (read-joined proper judged under k l′ has bare .has)))
             (test (hasCard (s .table) p k));
       }

@@ -9,7 +9,8 @@ use mathlib.Core.Bool.{true}
 use mathlib.Core.List.{List}
 use borrow.Author.Tests.{eq-eqb}
 use Rattle.rules.specs.Card.{accountCount, accounts}
-use Rattle.rules.specs.Table.{width, word, counter, parentOf, endTime, readFields, readEntry, writeField, hasWritten, hasWrites, hasCard, isCommitted, isRecordOf}
+use Rattle.rules.specs.Kind.{kindUnder}
+use Rattle.rules.specs.Table.{width, word, counter, parentOf, endTime, readFields, writeField, hasWritten, hasWrites, hasCard, isCommitted, isRecordOf}
 use Rattle.rules.specs.Sound.{IsStarted}
 use Rattle.rules.specs.Ledger.{Ledger}
 use Rattle.rules.specs.Commit.{commitTime, committedUnder}
@@ -17,6 +18,8 @@ use Rattle.rules.specs.Serial.Effect.{nothing}
 use Rattle.rules.proofs.Laws.Tests.{and-both, not-both, false-of-not-true}
 use Rattle.rules.proofs.Laws.Ranges.{any-at}
 use Rattle.rules.proofs.Laws.Sets.{account-within}
+use Rattle.rules.proofs.Laws.Kinds.{kind-known}
+use Rattle.rules.proofs.Sound.QueueChanges.{action-width}
 use Rattle.rules.proofs.Sound.TableChanges.{writes-agree, live-uncommitted}
 use Rattle.rules.proofs.Sound.Committing.{commit-parent, commit-keeps-row, commit-keeps-sets, commit-end}
 use Rattle.rules.proofs.Laws.Permitted.{Committable}
@@ -27,7 +30,7 @@ use Rattle.rules.proofs.Demand.Abstraction.{effectOf, abstraction, Stal
 use Rattle.rules.proofs.Demand.Proper.{Proper}
 use Rattle.rules.proofs.Demand.AbstractionLaws.{alive-started, alive-live, read-account, read-entered, effect-unwritten, effect-no-account, card-hides}
 use Rattle.rules.proofs.Demand.Views.{RowKept, RecordsKept, stale-stays}
-use Rattle.rules.proofs.Demand.CommitTable.{NoLater, table-change, number-few, parent-other, now-committed, read-joined, read-kept}
+use Rattle.rules.proofs.Demand.CommitTable.{ReadsOn, table-change, number-few, parent-other, now-committed, read-joined, read-kept}
 use Rattle.rules.proofs.Demand.CommitCards.{by-write-set}
 
 module _ {s : Ledger} (proper : Proper s) {n p : ℕ} (judged : Committable (s .table) n) (under : parentOf (s .table) n ≡ p) where
@@ -43,7 +46,7 @@ module _ {s : Ledger} (proper : Proper s) {n p : ℕ} (judged : Committable (s .
   -- a committed action isn't the one that commits, nor its parent, which is the store or live
   pub committed-row-kept : (m : ℕ) → IsStarted (s .table) m → isCommitted (s .table) m ≡ true → RowKept (s .table) table′ m
   committed-row-kept m begun done g h =
-      commit-keeps-row s n p (judged .own .0) m g (omega arith) (begun .0) not-committing (inl not-parent)
+      commit-keeps-row s n p (judged .own .0) m g (action-width g h) (begun .0) not-committing (inl not-parent)
     where
       not-committing : m ≢ n
       not-committing e = live-uncommitted (s .table) n (judged .alive) (rw e at done)
@@ -58,13 +61,11 @@ module _ {s : Ledger} (proper : Proper s) {n p : ℕ} (judged : Committable (s .
   records-kept : RecordsKept (s .table) table′
   records-kept = record { noFewer = le-of-eq (sym (table-change proper judged under .sameStarted)); rows = committed-row-kept }
 
-  stale-kept :
-      {X Y Q k : ℕ} → k < accountCount → NoLater (readEntry table′ Y k) (readEntry (s .table) X k) →
-      Stale s X Q k → Stale after Y Q k
-  stale-kept account no-later =
-      stale-stays s after account records-kept (omega arith)
+  stale-kept : {X Y Q k : ℕ} → k < accountCount → ReadsOn (s .table) X table′ Y k → Stale s X Q k → Stale after Y Q k
+  stale-kept account on = stale-stays s after account records-kept (on .times)
 
-  -- ---- a read that is stale now: n is a record of p then, with an end time above every read of a live action
+  -- ---- a read that is stale now: n is a record of p then, with an end time above every live action's reads by the times of n's
+  -- kind
 
   module _ (k : ℕ) (account : k < accountCount) (written : hasWritten (s .table) n k ≡ true) where
     has-writes : hasWrites (s .table) n ≡ true
@@ -82,20 +83,24 @@ module _ {s : Ledger} (proper : Proper s) {n p : ℕ} (judged : Committable (s .
         (and-both (now-committed proper judged under)
         (writes-agree (s .table) table′ n (λ j h. own-set-kept (writeField j) (omega arith) (omega arith)) ∙ has-writes))
 
-    now-ended : endTime table′ n ≡ counter (s .table) + 1
+    now-ended : endTime table′ n ≡ counter (s .table) (kindUnder p) + 1
     unfolding commitTime
-    now-ended = commit-end s n p (judged .own .0) (proper .sound .long) (number-few proper judged under) ∙ rw has-writes
+    now-ended =
+        commit-end s n p (judged .own .0) (proper .sound .long) (number-few proper judged under) ∙ rw (has-writes, under)
 
     now-stale : (X : ℕ) → Stays (abstraction s) (abstraction after) X → HasRead (abstraction s) X k → Stale after X p k
     now-stale X x has =
         let begun = alive-started (s .table) X (x .before) in
-        let in-time = proper .sound .reads X k begun (alive-live (s .table) X (x .before)) account (read-entered (s .table) X k has) in
+        let live = alive-live (s .table) X (x .before) in
+        let in-time =
+        proper .sound .reads (kindUnder p) X k (kind-known p) begun live account (read-entered (s .table) X k has) in
+        let on = read-kept proper judged under k X (x .before) (x .after) has .times (kindUnder p) in
         record {
           holder = n;
           begun = rw (table-change proper judged under .sameStarted) (judged .own);
           isRecord = now-record;
           written = rw (own-set-kept (writeField k) (omega arith) (omega arith)) written;
-          later = rw now-ended (omega (arith, read-kept proper judged under k X (x .before) (x .after) has));
+          later = rw now-ended (omega (arith, in-time, on));
         }
 
   no-effect-or-stale :

@@ -7,44 +7,59 @@ use mathlib.Core.Path.{_≡_, ap}
 use mathlib.Core.Logic.{inl, _≢_}
 use mathlib.Core.Bool.{true, false, not}
 use mathlib.Core.List.{List}
-use lib.Dec.{eqb}
-use borrow.Author.Tests.{eqb-true, eqb-false, eq-eqb, not-true}
+use borrow.Author.Tests.{eq-eqb, not-true}
 use Rattle.rules.specs.Card.{accountCount}
-use Rattle.rules.specs.Table.{mostActions, parentOf, readField, readEntry, hasRead, hasCard, isCommitted}
+use Rattle.rules.specs.Table.{width, word, mostActions, parentOf, readField, readEntry, hasRead, subTimeField, readTime, hasCard, isCommitted}
 use Rattle.rules.specs.Ledger.{Ledger}
-use Rattle.rules.specs.Commit.{passesRead, earlierRead, joinedRead, committedUnder}
-use Rattle.rules.proofs.Laws.Tests.{and-left, and-both, not-both, not-holds, nonzero, cond-holds}
+use Rattle.rules.specs.Commit.{passesRead, joinedWord, joinedRead, committedUnder}
+use Rattle.rules.proofs.Laws.Tests.{and-left, and-both, not-holds, nonzero, cond-holds}
 use Rattle.rules.proofs.Laws.Permitted.{Committable, not-own-parent}
 use Rattle.rules.proofs.Laws.Walking.{parent-known}
 use Rattle.rules.proofs.Sound.TableChanges.{TableChange, live-uncommitted}
-use Rattle.rules.proofs.Sound.Committing.{commit-keeps-row, commit-state, commit-read}
+use Rattle.rules.proofs.Sound.Committing.{commit-keeps-row, commit-state, commit-read, commit-read-time}
 use Rattle.rules.proofs.Sound.Judging.{commit-change}
 use Rattle.rules.proofs.Demand.Abstraction.{isAlive, hasReadAccount}
 use Rattle.rules.proofs.Demand.Proper.{Proper}
 use Rattle.rules.proofs.Demand.AbstractionLaws.{alive-started, alive-live, read-account, read-entered}
+use Rattle.rules.proofs.Demand.Views.{NoLater, same-no-later}
 
--- ---- read entries
+-- ---- joined reads
 
 -- an account is in the read set exactly where its entry isn't 0
 read-has-entry : (w : List ℕ) (X k : ℕ) → hasRead w X k ≡ true → 1 ≤ readEntry w X k
 read-has-entry w X k has = nonzero (readEntry w X k) .0 (not-true _ has)
 
-pub entry-has-read : (w : List ℕ) (X k : ℕ) → 1 ≤ readEntry w X k → hasRead w X k ≡ true
+entry-has-read : (w : List ℕ) (X k : ℕ) → 1 ≤ readEntry w X k → hasRead w X k ≡ true
 entry-has-read w X k one = not-holds _ .1 (nonzero (readEntry w X k) .1 one)
 
--- the entry e′ is one of a read, at a time no later than that of e
-abbrev pub NoLater : ℕ → ℕ → Type 0
-NoLater e′ e = (1 ≤ e′) × (e′ ≤ e)
+module _ (w : List ℕ) (n p k : ℕ) where
+  -- of a read that is passed the joined word is no greater than the child's, and of one that the parent has than the parent's
+  joined-child : passesRead w n p k ≡ true → (a b : ℕ) → joinedWord w n p k a b ≤ a
+  joined-child passes a b = rw passes (cond-holds (λ x. x ≤ a) (hasRead w p k) (λ _. omega arith) (λ _. le-refl a))
 
--- the earlier of a child's read and its parent's is no later than either
-module _ (child parent : ℕ) (one : 1 ≤ child) where
-  earlier-child : NoLater (earlierRead child parent) child
-  earlier-child =
-      cond-holds (λ e. NoLater e child) (eqb parent 0) (λ _. omega arith) (λ ne. omega (arith, eqb-false parent 0 ne))
+  joined-parent : hasRead w p k ≡ true → (a b : ℕ) → joinedWord w n p k a b ≤ b
+  joined-parent has a b = cond-holds (λ x. x ≤ b) (passesRead w n p k) (λ _. rw has (omega arith)) (λ _. le-refl b)
 
-  earlier-parent : 1 ≤ parent → NoLater (earlierRead child parent) parent
-  earlier-parent has =
-      cond-holds (λ e. NoLater e parent) (eqb parent 0) (λ z. absurd (omega (arith, eqb-true parent 0 z))) (λ _. omega arith)
+  -- and in either case the parent has a read then
+  joined-child-read : passesRead w n p k ≡ true → 1 ≤ joinedRead w n p k
+  joined-child-read passes =
+      let own = read-has-entry w n k (and-left (hasRead w n k) _ passes) in
+      rw passes
+      (cond-holds (λ x. 1 ≤ x) (hasRead w p k) (λ has. omega (arith, own, read-has-entry w p k has)) (λ _. own))
+
+  joined-parent-read : hasRead w p k ≡ true → 1 ≤ joinedRead w n p k
+  joined-parent-read has =
+      let above = read-has-entry w p k has in
+      cond-holds (λ x. 1 ≤ x) (passesRead w n p k)
+      (λ passes. rw has (omega (arith, above, read-has-entry w n k (and-left (hasRead w n k) _ passes))))
+      (λ _. above)
+
+-- ---- reads that go on
+
+-- Y has read account k in v, at times no later than those at which X had in w
+pub record ReadsOn (w : List ℕ) (X : ℕ) (v : List ℕ) (Y k : ℕ) : Type 0 where
+  pub has : hasRead v Y k ≡ true
+  pub times : NoLater w X v Y k
 
 -- ---- action n commits under p
 
@@ -68,49 +83,58 @@ module _ {s : Ledger} (proper : Proper s) {n p : ℕ} (judged : Committable (s .
   still-alive-other X l e = live-uncommitted _ n (rw e at (alive-live _ X l)) now-committed
 
   module _ (k : ℕ) where
-    parent-entry : 1 ≤ p → k < accountCount → readEntry (committedUnder s n p .table) p k ≡ joinedRead (s .table) n p k
-    parent-entry action = commit-read s n p (judged .own .0) (proper .sound .long) number-few action parent-few k
+    -- the words of the parent's read
+    module _ (action : 1 ≤ p) (account : k < accountCount) where
+      parent-read : readEntry (committedUnder s n p .table) p k ≡ joinedRead (s .table) n p k
+      parent-read = commit-read s n p (judged .own .0) (proper .sound .long) number-few action parent-few k account
 
-    -- a parent that is an action, and had no card for the account, has the reads of the one that commits, at times no later
+      parent-time :
+          (h : ℕ) →
+          readTime (committedUnder s n p .table) h p k
+          ≡ joinedWord (s .table) n p k (readTime (s .table) h n k) (readTime (s .table) h p k)
+      parent-time h = commit-read-time s n p (judged .own .0) (proper .sound .long) number-few action parent-few h k account
+
+    -- a parent that is an action, and had no card for the account, has the reads of the one that commits
     pub read-joined :
         isAlive (committedUnder s n p .table) p ≡ true → hasReadAccount (s .table) n k ≡ true → hasCard (s .table) p k ≡ false →
-        NoLater (readEntry (committedUnder s n p .table) p k) (readEntry (s .table) n k)
+        ReadsOn (s .table) n (committedUnder s n p .table) p k
     read-joined l′ has bare =
-        let entered = read-entered (s .table) n k has in
-        rw (parent-entry (alive-started _ p l′ .0) (read-account (s .table) n k has))
-        (cond-holds (λ e. NoLater e (readEntry (s .table) n k)) (passesRead (s .table) n p k)
-        (λ _. earlier-child (readEntry (s .table) n k) (readEntry (s .table) p k) (read-has-entry (s .table) n k entered))
-        (λ stays. absurd (not-both (and-both entered (ap not bare)) stays)))
+        let action = alive-started _ p l′ .0 in
+        let account = read-account (s .table) n k has in
+        let passes : passesRead (s .table) n p k ≡ true = and-both (read-entered (s .table) n k has) (ap not bare) in
+        record {
+          has = entry-has-read _ p k (rw (parent-read action account) (joined-child-read (s .table) n p k passes));
+          times = λ h. rw (parent-time action account h) (joined-child (s .table) n p k passes _ _);
+        }
 
-    -- the parent has the reads that it had, at times no later
-    parent-kept :
-        1 ≤ p → k < accountCount → 1 ≤ readEntry (s .table) p k →
-        NoLater (readEntry (committedUnder s n p .table) p k) (readEntry (s .table) p k)
-    parent-kept action account one =
-        rw (parent-entry action account)
-        (cond-holds (λ e. NoLater e (readEntry (s .table) p k)) (passesRead (s .table) n p k)
-        (λ passed.
-        let childs = read-has-entry (s .table) n k (and-left (hasRead (s .table) n k) _ passed) in
-        earlier-parent (readEntry (s .table) n k) (readEntry (s .table) p k) childs one)
-        (λ _. (one, le-refl (readEntry (s .table) p k))))
+    -- the parent has the reads that it had
+    parent-kept : 1 ≤ p → k < accountCount → hasRead (s .table) p k ≡ true → ReadsOn (s .table) p (committedUnder s n p .table) p k
+    parent-kept action account has =
+        record {
+          has = entry-has-read _ p k (rw (parent-read action account) (joined-parent-read (s .table) n p k has));
+          times = λ h. rw (parent-time action account h) (joined-parent (s .table) n p k has _ _);
+        }
 
     -- so has whoever is still live
     pub read-kept :
         (X : ℕ) → isAlive (s .table) X ≡ true → isAlive (committedUnder s n p .table) X ≡ true →
-        hasReadAccount (s .table) X k ≡ true → NoLater (readEntry (committedUnder s n p .table) X k) (readEntry (s .table) X k)
+        hasReadAccount (s .table) X k ≡ true → ReadsOn (s .table) X (committedUnder s n p .table) X k
     read-kept X l l′ has = cases (ℕ-discrete X p)
       where
         action : 1 ≤ X
         action = alive-started (s .table) X l .0
 
-        one : 1 ≤ readEntry (s .table) X k
-        one = read-has-entry (s .table) X k (read-entered (s .table) X k has)
-
         account : k < accountCount
         account = read-account (s .table) X k has
 
-        cases : Dec (X ≡ p) → NoLater (readEntry (committedUnder s n p .table) X k) (readEntry (s .table) X k)
-        cases (yes e) = rw e (parent-kept (rw e at action) account (rw e at one))
+        row : X ≢ p → (g : ℕ) → g < width → word (committedUnder s n p .table) X g ≡ word (s .table) X g
+        row ne g inside = commit-keeps-row s n p (judged .own .0) X g inside action (still-alive-other X l′) (inl ne)
+
+        cases : Dec (X ≡ p) → ReadsOn (s .table) X (committedUnder s n p .table) X k
+        cases (yes e) = rw e (parent-kept (rw e at action) account (rw e at (read-entered (s .table) X k has)))
         cases (no ne) =
-            rw (commit-keeps-row s n p (judged .own .0) X (readField k) (omega (arith, account)) action (still-alive-other X l′) (inl ne))
-            (one, le-refl (readEntry (s .table) X k))
+            let entry = row ne (readField k) (omega (arith, account)) in
+            record {
+              has = rw entry (read-entered (s .table) X k has);
+              times = same-no-later (s .table) _ X k entry (row ne (subTimeField k) (omega (arith, account)));
+            }

@@ -1,25 +1,24 @@
 -- The steps after which no more actions are live and nothing else has changed, as demand 3's proof sees them: an abort, a failed
--- commit, and a change of the queue. Assumes nothing.
+-- commit, and a change of a queue. Assumes nothing.
 use Prim.Native.Nat.{ℕ, _≤_, _<_}
 use native.Mathlib.Nat.{le-of-eq}
 use native.Mathlib.Omega.{arith}
 use mathlib.Core.Path.{_≡_, sym}
-use mathlib.Core.Bool.{true, false}
-use mathlib.Core.Logic.{inl, _≢_}
+use mathlib.Core.Logic.{inl, inr, _≢_}
 use mathlib.Core.List.{List}
-use Rattle.rules.specs.Table.{width, aborted, word, parentField, stateField, withState, readField, writeField, pendingField, isLive}
+use Rattle.rules.specs.Kind.{IsKind}
+use Rattle.rules.specs.Table.{width, aborted, word, parentField, stateField, withState, readField, subTimeField, writeField, pendingField, isLive}
 use Rattle.rules.specs.Ledger.{Ledger, withTable}
-use Rattle.rules.specs.Walk.{isAbortedBy}
-use Rattle.rules.specs.Queue.{theQueue, Entry, isQueued, withQueue}
+use Rattle.rules.specs.Queue.{Entry, withQueue}
 use Rattle.rules.specs.Sound.{SoundQueue}
 use Rattle.rules.specs.Step.{abortTable}
 use Rattle.rules.proofs.Laws.Tests.{and-left}
 use Rattle.rules.proofs.Laws.Permitted.{Committable}
 use Rattle.rules.proofs.Laws.Words.{word-other-row, word-off-field}
 use Rattle.rules.proofs.Sound.TableChanges.{TableChange, live-uncommitted}
-use Rattle.rules.proofs.Sound.QueueChanges.{given-keeps, queue-change}
+use Rattle.rules.proofs.Sound.QueueChanges.{action-width, given-keeps, queue-change}
 use Rattle.rules.proofs.Sound.Judging.{fail-change}
-use Rattle.rules.proofs.Sound.Aborting.{abort-keeps-field, abort-keeps-row, abort-change}
+use Rattle.rules.proofs.Sound.Aborting.{Spared, abort-keeps-field, abort-keeps-row, abort-change}
 use Rattle.rules.proofs.Serial.Events.{Drop}
 use Rattle.rules.proofs.Serial.Stale.{Old}
 use Rattle.rules.proofs.Demand.Abstraction.{abstraction, Stale}
@@ -39,7 +38,11 @@ states-keep field-kept =
       parents = λ m l. field-kept m parentField (omega arith) (λ z. omega arith);
       writes = λ m k l account. field-kept m (writeField k) (omega arith) (λ z. omega arith);
       sums = λ m k l charge. field-kept m (pendingField k) (omega arith) (λ z. omega arith);
-      reads = λ m k l account has. field-kept m (readField k) (omega arith) (λ z. omega arith);
+      reads =
+          λ m k l account has. (
+            field-kept m (readField k) (omega arith) (λ z. omega arith),
+            field-kept m (subTimeField k) (omega arith) (λ z. omega arith),
+          );
     }
 
 change-drops :
@@ -50,9 +53,7 @@ change-drops {s} {v} proper c kept =
 
 -- ---- an abort
 
-module _
-    (s : Ledger) (proper : Proper s) (n : ℕ)
-    (spared : (m : ℕ) → isQueued (s .table) theQueue m ≡ true → isAbortedBy (s .table) n m ≡ false) where
+module _ (s : Ledger) (proper : Proper s) (n : ℕ) (spared : Spared (s .table) n (proper .sound)) where
   change : TableChange (s .table) (abortTable (s .table) n) n
   change = abort-change (s .table) n (proper .sound) spared
 
@@ -65,7 +66,7 @@ module _
       record {
         noFewer = le-of-eq (sym (change .sameStarted));
         rows = λ m _ done g inside.
-            abort-keeps-row (s .table) n m g (omega arith)
+            abort-keeps-row (s .table) n m g (action-width g inside)
             (λ h reached. live-uncommitted (s .table) m (and-left (isLive (s .table) m) _ reached) done);
       }
 
@@ -76,38 +77,42 @@ module _
       Old (abstraction s) (abstraction (withTable s (abortTable (s .table) n))) (Stale s) (Stale (withTable s (abortTable (s .table) n)))
   abort-old = keeps-old s (abortTable (s .table) n) abort-keeps abort-records
 
--- ---- a change of the queue: nobody goes
+-- ---- a change of a queue: nobody goes
 
 module _
-    (s : Ledger) (proper : Proper s) (es : List Entry) (line : SoundQueue (withQueue (s .table) theQueue es) theQueue) where
+    (s : Ledger) (proper : Proper s) (h : ℕ) (known : IsKind h) (es : List Entry)
+    (line : SoundQueue (withQueue (s .table) h es) h) where
   abbrev queued : List ℕ
-  queued = withQueue (s .table) theQueue es
+  queued = withQueue (s .table) h es
 
   queue-changed : TableChange (s .table) queued 0
-  queue-changed = queue-change (s .table) (proper .sound) es line 0
+  queue-changed = queue-change (s .table) (proper .sound) h known es line 0
 
-  pub queue-rows : (m : ℕ) → 1 ≤ m → RowKept (s .table) (withQueue (s .table) theQueue es) m
-  queue-rows m one g inside = given-keeps (s .table) (proper .sound) es m g inside (inl one)
+  pub queue-rows : (m : ℕ) → 1 ≤ m → RowKept (s .table) (withQueue (s .table) h es) m
+  queue-rows m one g inside = given-keeps (s .table) (proper .sound) h known es m g inside (inl one)
 
   queue-keeps : Keeps (s .table) queued
   queue-keeps =
       record {
-        parents = λ m l. queue-rows m (alive-started (s .table) m (l .0) .0) parentField (omega arith);
-        writes = λ m k l account. queue-rows m (alive-started (s .table) m (l .0) .0) (writeField k) (omega arith);
-        sums = λ m k l charge. queue-rows m (alive-started (s .table) m (l .0) .0) (pendingField k) (omega arith);
-        reads = λ m k l account has. queue-rows m (alive-started (s .table) m (l .0) .0) (readField k) (omega arith);
+        parents = λ m l. queue-rows m (alive-started (s .table) m (l .0) .0) parentField (inl (omega arith));
+        writes = λ m k l account. queue-rows m (alive-started (s .table) m (l .0) .0) (writeField k) (inl (omega arith));
+        sums = λ m k l charge. queue-rows m (alive-started (s .table) m (l .0) .0) (pendingField k) (inl (omega arith));
+        reads =
+            λ m k l account has.
+            let row = queue-rows m (alive-started (s .table) m (l .0) .0) in
+            (row (readField k) (inl (omega arith)), row (subTimeField k) (inr (omega arith, omega arith)));
       }
 
   queue-records : RecordsKept (s .table) queued
   queue-records =
       record { noFewer = le-of-eq (sym (queue-changed .sameStarted)); rows = λ m begun done. queue-rows m (begun .0) }
 
-  pub queue-drops : Drop (abstraction s) (abstraction (withTable s (withQueue (s .table) theQueue es)))
+  pub queue-drops : Drop (abstraction s) (abstraction (withTable s (withQueue (s .table) h es)))
   queue-drops = change-drops proper queue-changed queue-keeps
 
   pub queue-old :
-      Old (abstraction s) (abstraction (withTable s (withQueue (s .table) theQueue es))) (Stale s)
-      (Stale (withTable s (withQueue (s .table) theQueue es)))
+      Old (abstraction s) (abstraction (withTable s (withQueue (s .table) h es))) (Stale s)
+      (Stale (withTable s (withQueue (s .table) h es)))
   queue-old = keeps-old s queued queue-keeps queue-records
 
 -- ---- a failed commit
@@ -128,7 +133,7 @@ module _ (s : Ledger) (proper : Proper s) (n : ℕ) (j : Committable (s .table) 
       record {
         noFewer = le-of-eq (sym (change-failed .sameStarted));
         rows = λ m _ done g inside.
-            word-other-row (s .table) n m stateField g aborted (omega arith) (omega arith)
+            word-other-row (s .table) n m stateField g aborted (omega arith) (action-width g inside)
             (λ same. live-uncommitted (s .table) n (j .alive) (rw same at done));
       }
 

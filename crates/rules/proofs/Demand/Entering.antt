@@ -8,8 +8,8 @@ use mathlib.Core.Path.{_≡_, sym}
 use mathlib.Core.Logic.{_⊎_, inl, inr, _≢_}
 use mathlib.Core.Bool.{true}
 use Rattle.rules.specs.Card.{accountCount}
-use Rattle.rules.specs.Table.{word, stateField, readField, readEntry, writeFields}
-use Rattle.rules.specs.Queue.{theQueue}
+use Rattle.rules.specs.Table.{word, stateField, readField, readEntry, subTime, writeFields}
+use Rattle.rules.specs.Kind.{IsKind}
 use Rattle.rules.specs.Sound.{IsStarted}
 use Rattle.rules.specs.Ledger.{Ledger}
 use Rattle.rules.specs.Serial.Effect.{Effect, lay}
@@ -24,7 +24,7 @@ use Rattle.rules.proofs.Serial.Stale.{Old}
 use Rattle.rules.proofs.Demand.Abstraction.{isAlive, effectOf, hasReadAccount, abstraction, Stale}
 use Rattle.rules.proofs.Demand.Proper.{Proper}
 use Rattle.rules.proofs.Demand.AbstractionLaws.{alive-started, alive-live, live-alive, read-account, read-entered, account-read, abstract-tree}
-use Rattle.rules.proofs.Demand.Views.{was-alive, same-parent, RowKept, RecordsKept, stale-stays}
+use Rattle.rules.proofs.Demand.Views.{was-alive, same-parent, same-no-later, RowKept, RecordsKept, stale-stays}
 
 -- from s to t, n enters account k with the effect f
 pub record Entering (s t : Ledger) (n k : ℕ) (f : Effect) : Type 0 where
@@ -33,8 +33,9 @@ pub record Entering (s t : Ledger) (n k : ℕ) (f : Effect) : Type 0 where
   pub change : TableChange (s .table) (t .table) n
   -- parents, states, end times and reads stay, and so does every row but n's
   pub fields : (m g : ℕ) → g < writeFields → word (t .table) m g ≡ word (s .table) m g
+  pub subTimes : (m j : ℕ) → j < accountCount → subTime (t .table) m j ≡ subTime (s .table) m j
   pub rows : (m : ℕ) → m ≢ n → RowKept (s .table) (t .table) m
-  pub sameLine : SameLine (s .table) (t .table) theQueue
+  pub sameLine : (h : ℕ) → IsKind h → SameLine (s .table) (t .table) h
   pub laid : effectOf t n k ≡ lay f (effectOf s n k)
   -- another action's effect, or on another account
   pub elsewhere : (X j : ℕ) → IsStarted (s .table) X → (X ≢ n) ⊎ (j ≢ k) → effectOf t X j ≡ effectOf s X j
@@ -98,4 +99,4 @@ module _
   pub entering-old : Old (abstraction s) (abstraction t) (Stale s) (Stale t)
   entering-old X Q j x has seen =
       let h = read-account (s .table) X j has in
-      stale-stays s t h records-kept (omega (arith, read-entry-kept X j h))
+      stale-stays s t h records-kept (same-no-later (s .table) (t .table) X j (read-entry-kept X j h) (e .subTimes X j h))

@@ -2,7 +2,7 @@
 -- pass may pass by it, what it has to be told of each step, and what holds of those who wait to be judged. Assumes nothing.
 use Prim.Native.Nat.{ℕ, _<_}
 use mathlib.Core.Path.{_≡_}
-use mathlib.Core.Bool.{true, false}
+use mathlib.Core.Bool.{true}
 use mathlib.Core.List.{List}
 use lib.IntN.{_+ℤ_}
 use Rattle.rules.specs.declared.Found.the-variants.{Nothing}
@@ -11,12 +11,13 @@ use Rattle.rules.specs.Amount.{isAmount, amountIn}
 use Rattle.rules.specs.Table.{aborted, parentOf, withState, pendingSum}
 use Rattle.rules.specs.Clash.{firstClash}
 use Rattle.rules.specs.Ledger.{Ledger, withTable}
-use Rattle.rules.specs.Walk.{isAbortedBy}
-use Rattle.rules.specs.Queue.{theQueue, Entry, isQueued, withQueue}
+use Rattle.rules.specs.Kind.{IsKind}
+use Rattle.rules.specs.Queue.{Entry, withQueue}
 use Rattle.rules.specs.Sound.{SoundQueue}
 use Rattle.rules.specs.Commit.{committedUnder}
 use Rattle.rules.specs.Step.{start, read, write, add, abortTable}
 use Rattle.rules.proofs.Laws.Permitted.{Startable, Touchable, Committable}
+use Rattle.rules.proofs.Sound.Aborting.{Spared}
 use Rattle.rules.proofs.Serial.Rule.{Rule}
 use Rattle.rules.proofs.Demand.Abstraction.{abstraction}
 use Rattle.rules.proofs.Demand.Proper.{Proper}
@@ -35,13 +36,12 @@ pub record JudgingRule : Type 1 where
       (s : Ledger) → Proper s → (n k : ℕ) → Touchable (s .table) n k → IsCharge k → (card : List ℕ) →
       isAmount (pendingSum (s .table) n k +ℤ amountIn card) ≡ true → rule .CalmFacts s (add s n k card .after)
   pub at-abort :
-      (s : Ledger) → Proper s → (n : ℕ) →
-      ((m : ℕ) → isQueued (s .table) theQueue m ≡ true → isAbortedBy (s .table) n m ≡ false) →
+      (s : Ledger) (proper : Proper s) (n : ℕ) → Spared (s .table) n (proper .sound) →
       rule .CalmFacts s (withTable s (abortTable (s .table) n))
-  -- a change of the queue
+  -- a change of a queue
   pub at-queue :
-      (s : Ledger) → Proper s → (es : List Entry) → SoundQueue (withQueue (s .table) theQueue es) theQueue →
-      rule .CalmFacts s (withTable s (withQueue (s .table) theQueue es))
+      (s : Ledger) → Proper s → (h : ℕ) → IsKind h → (es : List Entry) → SoundQueue (withQueue (s .table) h es) h →
+      rule .CalmFacts s (withTable s (withQueue (s .table) h es))
   pub at-failed-commit :
       (s : Ledger) → Proper s → (n : ℕ) → Committable (s .table) n →
       rule .CalmFacts s (withTable s (withState (s .table) n aborted))

@@ -14,12 +14,13 @@ use Rattle.rules.specs.Event.{readBy}
 use Rattle.rules.specs.Answer.{said}
 use Rattle.rules.specs.Nearest.{readSum}
 use Rattle.rules.specs.Cause.{isReadOutside, areOutside}
-use Rattle.rules.specs.Queue.{theQueue, isQueued}
+use Rattle.rules.specs.Queue.{isQueued, isWaiting}
 use Rattle.rules.specs.Ledger.{Ledger, withTable}
 use Rattle.rules.specs.Step.{readTable, readAnswer, read}
 use Rattle.rules.proofs.Laws.Amounts.{amount-read-back}
 use Rattle.rules.proofs.Laws.Ranges.{any-agree}
 use Rattle.rules.proofs.Laws.Walking.{walk-agree, sound-climbs}
+use Rattle.rules.proofs.Laws.Kinds.{unqueued-in, unqueued-of}
 use Rattle.rules.proofs.Laws.Allowed.{allowed-none}
 use Rattle.rules.proofs.Laws.Permitted.{Touchable, read-sum-fits}
 use Rattle.rules.proofs.Sound.Soundness.{tested}
@@ -56,7 +57,7 @@ module _ (s : Ledger) (proper : Proper s) (n k : ℕ) (permitted : Touchable (s 
   own-after = rw (change .sameStarted) own
 
   state-kept : (m : ℕ) → stateOf after m ≡ stateOf before m
-  state-kept m = read-keeps-field before n k account m stateField (omega arith) (λ z. omega arith)
+  state-kept m = read-keeps-field before n k account m stateField (omega arith) (λ z. omega arith) (λ z. omega arith)
 
   childless-after : hasLiveChild after n ≡ false
   unfolding hasLiveChild actions
@@ -72,14 +73,19 @@ module _ (s : Ledger) (proper : Proper s) (n k : ℕ) (permitted : Touchable (s 
   sum-kept =
       let up = sound-climbs (proper .sound) n (own .1) in
       walk-agree _ _ _ _ _ (λ _. Unit {0}) (λ m _ _. tt)
-      (λ m _ _. read-keeps-field before n k account m parentField (omega arith) (λ z. omega arith))
+      (λ m _ _. read-keeps-field before n k account m parentField (omega arith) (λ z. omega arith) (λ z. omega arith))
       (λ m _ _ above.
-      ap (λ x. above +ℤ amountOf x) (read-keeps-field before n k account m (pendingField k) (omega arith) (λ z. omega arith)))
+      ap (λ x. above +ℤ amountOf x)
+      (read-keeps-field before n k account m (pendingField k) (omega arith) (λ z. omega arith) (λ z. omega arith)))
       mostActions mostActions n tt up up
 
-  unqueued-after : isQueued after theQueue n ≡ false
+  unqueued-after : isWaiting after n ≡ false
   unfolding isQueued
-  unqueued-after = rw (queue-kept before after theQueue (omega arith) (read-line before n k account (proper .sound) own)) unqueued
+  unqueued-after =
+      unqueued-of after n
+      (λ h known.
+      rw (queue-kept before after h known (read-line before n k account (proper .sound) own h known))
+      (unqueued-in before n unqueued h known))
 
   module _ (fits : isReadOutside before (s .base) n k ≡ false) where
     fits-after : isReadOutside after (s .base) n k ≡ false

@@ -11,14 +11,16 @@ use mathlib.Core.List.{List}
 use lib.Dec.{eqb}
 use borrow.Author.Tests.{ne-eqb}
 use Rattle.rules.specs.Card.{accountCount, isCharge}
-use Rattle.rules.specs.Table.{counter, stateField, readField, readEntry, hasRead, writeField, hasCard, pendingField}
+use Rattle.rules.specs.Kind.{topKind}
+use Rattle.rules.specs.Table.{counter, stateField, readField, readEntry, hasRead, subTimeField, subTime, writeField, hasCard, pendingField}
 use Rattle.rules.specs.Ledger.{Ledger, withTable}
 use Rattle.rules.specs.Step.{leavesReadSet, readTable, readAnswer, read}
 use Rattle.rules.specs.Serial.Told.{itRead, told}
-use Rattle.rules.proofs.Laws.Tests.{or-cases, test, not-both, cond-holds}
+use Rattle.rules.proofs.Laws.Tests.{or-cases, or-inl, test, not-both, cond-holds}
 use Rattle.rules.proofs.Laws.Permitted.{Touchable}
 use Rattle.rules.proofs.Sound.TableChanges.{TableChange, live-uncommitted}
-use Rattle.rules.proofs.Sound.Reading.{read-keeps-field, read-keeps-row, read-entry, read-change}
+use Rattle.rules.proofs.Sound.QueueChanges.{action-width}
+use Rattle.rules.proofs.Sound.Reading.{read-keeps-field, read-keeps-row, read-entry, read-again, read-change}
 use Rattle.rules.proofs.Serial.Events.{Noted, Read}
 use Rattle.rules.proofs.Serial.Stale.{Old}
 use Rattle.rules.proofs.Demand.Abstraction.{abstraction, Stale}
@@ -43,22 +45,32 @@ module _ (s : Ledger) (proper : Proper s) (n k : ℕ) (permitted : Touchable (s 
   change : TableChange before after n
   change = read-change before n k account (proper .sound) own
 
-  -- a time that is there stays
-  entry-kept : (m j : ℕ) → j < accountCount → hasRead before m j ≡ true → readEntry after m j ≡ readEntry before m j
-  entry-kept m j inside has = cases (ℕ-discrete m n) (ℕ-discrete j k)
+  -- both times that are there stay
+  words-kept :
+      (m j : ℕ) → j < accountCount → hasRead before m j ≡ true →
+      (readEntry after m j ≡ readEntry before m j) × (subTime after m j ≡ subTime before m j)
+  words-kept m j inside has = cases (ℕ-discrete m n) (ℕ-discrete j k)
     where
-      cases : Dec (m ≡ n) → Dec (j ≡ k) → readEntry after m j ≡ readEntry before m j
-      cases (no other) _ = read-keeps-row before n k account m (readField j) (omega arith) other
-      cases (yes reader) (no other) = read-keeps-field before n k account m (readField j) (omega arith) (λ z. other (omega arith))
-      cases (yes reader) (yes same) = rw (reader, same, read-entry before n k account (proper .sound) own, rw (reader, same) at has)
+      cases : Dec (m ≡ n) → Dec (j ≡ k) → (readEntry after m j ≡ readEntry before m j) × (subTime after m j ≡ subTime before m j)
+      cases (no other) _ = (
+        read-keeps-row before n k account m (readField j) (omega arith) other,
+        read-keeps-row before n k account m (subTimeField j) (omega arith) other,
+      )
+      cases (yes reader) (no other) = (
+        read-keeps-field before n k account m (readField j) (omega arith) (λ z. other (omega arith)) (λ z. omega arith),
+        read-keeps-field before n k account m (subTimeField j) (omega arith) (λ z. omega arith) (λ z. other (omega arith)),
+      )
+      cases (yes reader) (yes same) =
+          let unchanged = read-again before n k account (or-inl (hasCard before n k) (rw (reader, same) at has)) in
+          rw unchanged (refl, refl)
 
   read-keeps : Keeps before after
   read-keeps =
       record {
         parents = λ m l. change .parents m (alive-started before m (l .0));
-        writes = λ m j l inside. read-keeps-field before n k account m (writeField j) (omega arith) (λ z. omega arith);
-        sums = λ m j l charge. read-keeps-field before n k account m (pendingField j) (omega arith) (λ z. omega arith);
-        reads = λ m j l. entry-kept m j;
+        writes = λ m j l inside. read-keeps-field before n k account m (writeField j) (omega arith) (λ z. omega arith) (λ z. omega arith);
+        sums = λ m j l charge. read-keeps-field before n k account m (pendingField j) (omega arith) (λ z. omega arith) (λ z. omega arith);
+        reads = λ m j l. words-kept m j;
       }
 
   -- a committed action isn't the reader
@@ -66,7 +78,9 @@ module _ (s : Ledger) (proper : Proper s) (n k : ℕ) (permitted : Touchable (s 
   records-kept =
       record {
         noFewer = le-of-eq (sym (change .sameStarted));
-        rows = λ m h done g inside. read-keeps-row before n k account m g (omega arith) (λ e. live-uncommitted before n alive (rw e at done));
+        rows = λ m h done g inside.
+            read-keeps-row before n k account m g (action-width g inside)
+            (λ e. live-uncommitted before n alive (rw e at done));
       }
 
   -- where the reader has no card the account is in its read set then
@@ -75,7 +89,7 @@ module _ (s : Ledger) (proper : Proper s) (n k : ℕ) (permitted : Touchable (s 
       rw (read-entry before n k account (proper .sound) own)
       (cond-holds (λ entry. not (eqb entry 0) ≡ true) (leavesReadSet before n k)
       (λ stays. ⊎-elim (λ has. has) (λ card. absurd (not-both card bare)) (or-cases (hasRead before n k) (hasCard before n k) stays))
-      (λ _. ap not (ne-eqb (counter before + 1) 0 (λ z. omega arith))))
+      (λ _. ap not (ne-eqb (counter before topKind + 1) 0 (λ z. omega arith))))
 
   read-noted : Noted (abstraction s) (abstraction (withTable s after)) n k
   read-noted =
@@ -92,7 +106,7 @@ module _ (s : Ledger) (proper : Proper s) (n k : ℕ) (permitted : Touchable (s 
         nobody-new = was-alive change;
         reader-live =
             live-alive after n (rw (change .sameStarted) own)
-            (rw (read-keeps-field before n k account n stateField (omega arith) (λ z. omega arith)) alive);
+            (rw (read-keeps-field before n k account n stateField (omega arith) (λ z. omega arith) (λ z. omega arith)) alive);
         noted = read-noted;
       }
 

@@ -15,14 +15,14 @@ use Rattle.rules.specs.Answer.{said}
 use Rattle.rules.specs.Clash.{firstClash}
 use Rattle.rules.specs.Cause.{isReadOutside, isCommitOutside}
 use Rattle.rules.specs.Ledger.{Ledger}
-use Rattle.rules.specs.Queue.{theQueue, queueLength, isQueuedFailed}
-use Rattle.rules.specs.Step.{Outcome, start, read, write, add, judged, leave, enter, revealed, judgeLeft, judgeAnswer, judge, abortLeft, abort, step, leaversAt}
+use Rattle.rules.specs.Table.{parentOf, kindOf}
+use Rattle.rules.specs.Queue.{queueLength}
+use Rattle.rules.specs.Step.{Outcome, start, read, write, add, judged, leave, enter, isJudgedFailed, revealed, judgeLeft, judgeAnswer, judge, abortLeft, abort, step, leaversAt}
 use Rattle.rules.specs.Run.{run}
 use Rattle.rules.specs.Serial.Told.{itLetLeave, told, toldAll}
 use Rattle.rules.specs.Serial.Collect.{Known, commitsAt, laidAll, stepped, collectOne, collectFrom}
+use Rattle.rules.proofs.Laws.Kinds.{kind-known}
 use Rattle.rules.proofs.Laws.Permitted.{Startable, Touchable, Committable, Judgeable, step-by-kind}
-use Rattle.rules.proofs.Sound.Committing.{commit-line}
-use Rattle.rules.proofs.Sound.Judging.{fail-line}
 use Rattle.rules.proofs.Serial.Values.{AccountValue}
 use Rattle.rules.proofs.Serial.Settling.{whole-card, charge-sum}
 use Rattle.rules.proofs.Demand.Proper.{Proper, step-keeps-proper}
@@ -33,7 +33,7 @@ use Rattle.rules.proofs.Demand.Writes.{write-enters}
 use Rattle.rules.proofs.Demand.Adds.{add-enters}
 use Rattle.rules.proofs.Demand.Drops.{fail-drops}
 use Rattle.rules.proofs.Demand.JudgingRule.{JudgingRule}
-use Rattle.rules.proofs.Demand.LeaversKept.{enter-queue-kept, dropped-kept, revealed-kept, leave-kept}
+use Rattle.rules.proofs.Demand.LeaversKept.{enter-queue-kept, dropped-kept, revealed-kept, leave-kept, both-leave-kept}
 use Rattle.rules.proofs.Demand.Collected.{Kept, drop-kept, start-kept, read-kept, enter-kept, pass-kept}
 
 -- ---- what a place was given
@@ -91,18 +91,19 @@ module _
       (J .at-add s (kept .proper) (e .number) (e .account) permitted charge (e .card) fits)
       (J .waits .waits-add s (kept .proper) (e .number) (e .account) permitted charge (e .card) fits (kept .waiting))
 
-  -- a commit event: nobody waits, before or after
+  -- a commit event: nobody of its kind waits
   judges :
-      Committable (s .table) (e .number) → queueLength (s .table) theQueue ≡ 0 → (f : Found) → firstClash (s .table) (e .number) ≡ f →
+      Committable (s .table) (e .number) → queueLength (s .table) (kindOf (s .table) (e .number)) ≡ 0 →
+      (f : Found) → firstClash (s .table) (e .number) ≡ f →
       isCommitOutside (s .table) (s .base) (e .number) f ≡ false → KeptAfter (judged s (e .number) f) []
   unfolding KeptAfter judged collectOne commitsAt stepped laidAll
   judges j empty Nothing clear fits proper′ seen below =
       pass-kept J got ground opening kept i (e .number) j fits proper′ (J .passes s (kept .proper) (e .number) j clear)
-      (J .waits .none-waits _ (commit-line s (e .number) _ (j .own .0) .sameLength ∙ empty))
+      (J .waits .waits-commit s (kept .proper) (e .number) j empty (kept .waiting))
   judges j empty (At t k) clash fits proper′ seen below =
       drop-kept J got ground opening kept i _ proper′
       (fail-drops s (kept .proper) (e .number) j) (J .at-failed-commit s (kept .proper) (e .number) j)
-      (J .waits .none-waits _ (fail-line (s .table) (kept .proper .sound) (e .number) j .sameLength ∙ empty))
+      (J .waits .waits-fail s (kept .proper) (e .number) j (kept .waiting))
 
   enters : Committable (s .table) (e .number) → KeptAfter (enter s (e .number)) []
   unfolding KeptAfter enter collectOne commitsAt stepped laidAll
@@ -116,16 +117,17 @@ module _
   reveals : Judgeable (s .table) (e .number) → KeptAfter (judge s (e .number)) (judgeLeft s (e .number) .commits)
   unfolding KeptAfter judge judgeLeft collectOne commitsAt stepped
   reveals j proper′ seen below =
-      let failed = isQueuedFailed (s .table) theQueue (e .number) in
+      let h = kindOf (s .table) (e .number) in
+      let failed = isJudgedFailed (s .table) (e .number) in
       let shown = revealed-kept J got ground opening i kept (e .number) j failed refl in
-      rw (judge-told failed (leave theQueue (revealed s (e .number) failed) .many) (leave theQueue (revealed s (e .number) failed) .commits))
-      (leave-kept J got ground opening i _ (shown .proper .sound) c shown)
+      rw (judge-told failed (leave h (revealed s (e .number) failed) .many) (leave h (revealed s (e .number) failed) .commits))
+      (leave-kept J got ground opening i h (kind-known (parentOf (s .table) (e .number))) _ (shown .proper .sound) c shown)
 
   aborts : KeptAfter (abort s (e .number)) (abortLeft s (e .number) .commits)
   unfolding KeptAfter abort abortLeft collectOne commitsAt stepped
   aborts proper′ seen below =
       let gone = dropped-kept J got ground opening i kept (e .number) in
-      leave-kept J got ground opening i _ (gone .proper .sound) c gone
+      both-leave-kept J got ground opening i _ (gone .proper .sound) c gone
 
   step-keeps : KeptAfter (step s e) (leaversAt s e)
   unfolding KeptAfter collectOne commitsAt stepped laidAll

@@ -2,17 +2,18 @@
 use Prim.Native.Nat.{ℕ, _+_}
 use native.Mathlib.Omega.{arith}
 use mathlib.Core.Path.{_≡_, ap}
-use mathlib.Core.Logic.{_≢_}
+use mathlib.Core.Logic.{inl, inr, _≢_}
 use mathlib.Core.Bool.{true, not}
 use mathlib.Core.List.{List}
 use lib.Dec.{eqb}
 use borrow.Author.Tests.{eq-eqb}
-use Rattle.rules.specs.Table.{started, parentField, stateField, readField, writeField, pendingField}
+use Rattle.rules.specs.Table.{started, parentField, stateField, readField, subTimeField, writeField, pendingField}
 use Rattle.rules.specs.Sound.{IsStarted}
 use Rattle.rules.specs.Ledger.{Ledger, withTable}
 use Rattle.rules.specs.Step.{startTable, start}
 use Rattle.rules.specs.Serial.Effect.{nothing}
 use Rattle.rules.proofs.Laws.Permitted.{Startable}
+use Rattle.rules.proofs.Sound.QueueChanges.{action-width}
 use Rattle.rules.proofs.Sound.Starting.{start-keeps-row, start-started, start-state, start-write, start-keeps-sound}
 use Rattle.rules.proofs.Serial.Events.{Start}
 use Rattle.rules.proofs.Serial.Stale.{Old}
@@ -37,7 +38,7 @@ module _ (s : Ledger) (proper : Proper s) (p : ℕ) (permitted : Startable (s .t
 
   -- who had started before keeps its row
   row-kept : (m : ℕ) → IsStarted before m → RowKept before after m
-  row-kept m h g inside = start-keeps-row before p m g (omega arith) (h .0) (λ z. omega arith)
+  row-kept m h g inside = start-keeps-row before p m g (action-width g inside) (h .0) (λ z. omega arith)
 
   live-row-kept : (m : ℕ) → isAlive before m ≡ true → RowKept before after m
   live-row-kept m l = row-kept m (alive-started before m l)
@@ -45,10 +46,14 @@ module _ (s : Ledger) (proper : Proper s) (p : ℕ) (permitted : Startable (s .t
   start-keeps : Keeps before after
   start-keeps =
       record {
-        parents = λ m l. live-row-kept m (l .0) parentField (omega arith);
-        writes = λ m k l account. live-row-kept m (l .0) (writeField k) (omega arith);
-        sums = λ m k l charge. live-row-kept m (l .0) (pendingField k) (omega arith);
-        reads = λ m k l account has. live-row-kept m (l .0) (readField k) (omega arith);
+        parents = λ m l. live-row-kept m (l .0) parentField (inl (omega arith));
+        writes = λ m k l account. live-row-kept m (l .0) (writeField k) (inl (omega arith));
+        sums = λ m k l charge. live-row-kept m (l .0) (pendingField k) (inl (omega arith));
+        reads =
+            λ m k l account has. (
+              live-row-kept m (l .0) (readField k) (inl (omega arith)),
+              live-row-kept m (l .0) (subTimeField k) (inr (omega arith, omega arith)),
+            );
       }
 
   records-kept : RecordsKept before after
@@ -65,7 +70,7 @@ module _ (s : Ledger) (proper : Proper s) (p : ℕ) (permitted : Startable (s .t
   others-were-alive : (X : ℕ) → isAlive after X ≡ true → X ≢ next → isAlive before X ≡ true
   others-were-alive X l other =
       let begun : IsStarted before X = omega (arith, alive-started after X l, last-start) in
-      live-alive before X begun (rw (row-kept X begun stateField (omega arith)) at (alive-live after X l))
+      live-alive before X begun (rw (row-kept X begun stateField (inl (omega arith))) at (alive-live after X l))
 
   next-alive : isAlive after next ≡ true
   next-alive =

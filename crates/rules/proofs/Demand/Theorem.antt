@@ -1,13 +1,15 @@
 -- Demand 3 and conservation: what the collector and the engine keep through every list of events gives the statements of
 -- specs/Serial/Demand.antt and specs/Serial/Conserved.antt. Assumes nothing.
-use Prim.Native.Nat.{ℕ, suc, _+_}
+use Prim.Native.Nat.{ℕ, zero, suc, _+_}
+use native.Mathlib.Omega.{arith}
 use native.Mathlib.Nat.{zero-add, add-zero, add-suc, suc-add}
 use mathlib.Core.Path.{_≡_, refl, sym, ap, _∙_}
 use mathlib.Core.List.{List, [], _∷_}
 use lib.ListN.{length, take, getD}
 use Rattle.rules.specs.Card.{baseLength, shadowLength, basePlace, cardAt}
 use Rattle.rules.specs.Table.{newTable, word}
-use Rattle.rules.specs.Queue.{theQueue, queueLength}
+use Rattle.rules.specs.Kind.{IsKind}
+use Rattle.rules.specs.Queue.{queueLength}
 use Rattle.rules.specs.Event.{Event, startUnder}
 use Rattle.rules.specs.Ledger.{Ledger}
 use Rattle.rules.specs.Step.{step}
@@ -73,9 +75,11 @@ given-along got ground i s (e ∷ es) seen below = (
 
 -- ---- under any judging rule
 
-new-queue-empty : queueLength newTable theQueue ≡ 0
+new-queues-empty : (h : ℕ) → IsKind h → queueLength newTable h ≡ 0
 unfolding newTable word
-new-queue-empty = refl
+new-queues-empty zero known = refl
+new-queues-empty (suc zero) known = refl
+new-queues-empty (suc (suc h)) known = absurd (omega arith)
 
 module _ (J : JudgingRule) (base shadow : List ℕ) (baseFits : length base ≡ baseLength) (shadowFits : length shadow ≡ shadowLength) where
   kept-at-first : (got ground : ℕ → AccountValue) → Kept J got ground (shownBase base) (newOver base shadow) unknown
@@ -88,7 +92,7 @@ module _ (J : JudgingRule) (base shadow : List ℕ) (baseFits : length base ≡ 
         parents = λ X l. absurd (new-nobody-alive X l);
         whole = λ n. tt;
         top = tt;
-        waiting = J .waits .none-waits (newOver base shadow) new-queue-empty;
+        waiting = J .waits .none-waits (newOver base shadow) new-queues-empty;
       }
 
   module _ (es : List Event) where

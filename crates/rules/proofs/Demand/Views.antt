@@ -1,13 +1,15 @@
 -- What makes two ledgers show the same: effects that stay, and reads that stay stale; and what an event must keep of the table,
 -- where it touches no store, to lay nothing on anybody. Assumes nothing.
-use Prim.Native.Nat.{ℕ, _-_, _≤_, _<_}
+use Prim.Native.Nat.{ℕ, _≤_, _<_}
 use native.Mathlib.Nat.{le-of-eq}
 use native.Mathlib.Omega.{arith}
-use mathlib.Core.Path.{_≡_, refl, sym, ap, _∙_}
+use mathlib.Core.Path.{_≡_, refl, sym, _∙_}
+use mathlib.Core.Logic.{inl}
 use mathlib.Core.Bool.{true}
 use mathlib.Core.List.{List}
 use Rattle.rules.specs.Card.{accountCount, firstCharge, IsCharge, shadowPlace, cardAt}
-use Rattle.rules.specs.Table.{actionWidth, word, started, parentField, parentOf, stateField, endField, readEntry, hasRead, readTime, writeField, writeEntry, hasWrites, pendingWord, isCommitted, hasEnd, isChildOf, isRecordOf}
+use Rattle.rules.specs.Kind.{kindUnder}
+use Rattle.rules.specs.Table.{IsActionField, word, started, parentField, parentOf, stateField, endField, readEntry, hasRead, subTime, readTime, writeField, writeEntry, hasWrites, pendingWord, isCommitted, hasEnd, isChildOf, isRecordOf}
 use Rattle.rules.specs.Sound.{IsStarted}
 use Rattle.rules.specs.Ledger.{Ledger, withTable}
 use Rattle.rules.proofs.Laws.Tests.{and-left, and-right}
@@ -40,7 +42,7 @@ effect-kept s t X k entry sum card =
 
 -- no word of action m has changed
 abbrev pub RowKept : List ℕ → List ℕ → ℕ → Type 0
-RowKept w v m = (g : ℕ) → g < actionWidth → word v m g ≡ word w m g
+RowKept w v m = (g : ℕ) → IsActionField g → word v m g ≡ word w m g
 
 pub record-committed : (w : List ℕ) (Q m : ℕ) → isRecordOf w Q m ≡ true → isCommitted w m ≡ true
 unfolding isRecordOf
@@ -49,19 +51,32 @@ record-committed w Q m is = and-left (isCommitted w m) (hasWrites w m) (and-righ
 record-kept : (w v : List ℕ) (Q m : ℕ) → RowKept w v m → isRecordOf v Q m ≡ isRecordOf w Q m
 unfolding isRecordOf
 record-kept w v Q m row =
-    rw (row parentField (omega arith), row stateField (omega arith), writes-agree w v m (λ k h. row (writeField k) (omega arith)))
+    rw (
+      row parentField (inl (omega arith)),
+      row stateField (inl (omega arith)),
+      writes-agree w v m (λ k h. row (writeField k) (inl (omega arith))),
+    )
+
+-- Y's read of account k in v is no later than X's in w, by its time of either kind.
+abbrev pub NoLater : List ℕ → ℕ → List ℕ → ℕ → ℕ → Type 0
+NoLater w X v Y k = (h : ℕ) → readTime v h Y k ≤ readTime w h X k
+
+-- so where both its words are the same
+pub same-no-later :
+    (w v : List ℕ) (X k : ℕ) → readEntry v X k ≡ readEntry w X k → subTime v X k ≡ subTime w X k → NoLater w X v X k
+same-no-later w v X k entry time h = le-of-eq (rw (entry, time) refl)
 
 -- A read is stale by a record: while the record's row is kept, whoever has read the account at no later a time has a stale read.
 pub stale-by-kept-row :
     (s t : Ledger) {X Y Q k : ℕ} → k < accountCount → (st : Stale s X Q k) → IsStarted (t .table) (st .holder) →
-    RowKept (s .table) (t .table) (st .holder) → readTime (t .table) Y k ≤ readTime (s .table) X k → Stale t Y Q k
+    RowKept (s .table) (t .table) (st .holder) → NoLater (s .table) X (t .table) Y k → Stale t Y Q k
 stale-by-kept-row s t {Q = Q} {k = k} account st begun row no-later =
     record {
       holder = st .holder;
       begun = begun;
       isRecord = record-kept (s .table) (t .table) Q (st .holder) row ∙ st .isRecord;
-      written = rw (row (writeField k) (omega arith)) (st .written);
-      later = rw (row endField (omega arith)) (omega (arith, st .later));
+      written = rw (row (writeField k) (inl (omega arith))) (st .written);
+      later = rw (row endField (inl (omega arith))) (omega (arith, no-later (kindUnder Q), st .later));
     }
 
 -- every committed action keeps its row
@@ -72,7 +87,7 @@ pub record RecordsKept (w v : List ℕ) : Type 0 where
 -- then every stale read stays stale: what makes it so is one of them
 pub stale-stays :
     (s t : Ledger) {X Y Q k : ℕ} → k < accountCount → RecordsKept (s .table) (t .table) →
-    readTime (t .table) Y k ≤ readTime (s .table) X k → Stale s X Q k → Stale t Y Q k
+    NoLater (s .table) X (t .table) Y k → Stale s X Q k → Stale t Y Q k
 stale-stays s t {Q = Q} account kept no-later st =
     stale-by-kept-row s t account st (omega (arith, st .begun, kept .noFewer))
     (kept .rows (st .holder) (st .begun) (record-committed (s .table) Q (st .holder) (st .isRecord))) no-later
@@ -97,16 +112,19 @@ pub record Keeps (w v : List ℕ) : Type 0 where
   pub parents : (m : ℕ) → LivesOn w v m → parentOf v m ≡ parentOf w m
   pub writes : (m k : ℕ) → LivesOn w v m → k < accountCount → writeEntry v m k ≡ writeEntry w m k
   pub sums : (m k : ℕ) → LivesOn w v m → IsCharge k → pendingWord v m k ≡ pendingWord w m k
-  pub reads : (m k : ℕ) → LivesOn w v m → k < accountCount → hasRead w m k ≡ true → readEntry v m k ≡ readEntry w m k
+  pub reads :
+      (m k : ℕ) → LivesOn w v m → k < accountCount → hasRead w m k ≡ true →
+      (readEntry v m k ≡ readEntry w m k) × (subTime v m k ≡ subTime w m k)
 
 module _ (s : Ledger) (v : List ℕ) (kept : Keeps (s .table) v) where
-  entry-kept :
-      (X k : ℕ) → LivesOn (s .table) v X → hasReadAccount (s .table) X k ≡ true → readEntry v X k ≡ readEntry (s .table) X k
-  entry-kept X k l has = kept .reads X k l (read-account (s .table) X k has) (read-entered (s .table) X k has)
+  words-kept :
+      (X k : ℕ) → LivesOn (s .table) v X → hasReadAccount (s .table) X k ≡ true →
+      (readEntry v X k ≡ readEntry (s .table) X k) × (subTime v X k ≡ subTime (s .table) X k)
+  words-kept X k l has = kept .reads X k l (read-account (s .table) X k has) (read-entered (s .table) X k has)
 
   read-kept : (X k : ℕ) → LivesOn (s .table) v X → hasReadAccount (s .table) X k ≡ true → hasReadAccount v X k ≡ true
   read-kept X k l has =
-      account-read v X k (read-account (s .table) X k has) (rw (entry-kept X k l has) (read-entered (s .table) X k has))
+      account-read v X k (read-account (s .table) X k has) (rw (words-kept X k l has .0) (read-entered (s .table) X k has))
 
   pub keeps-still : Proper s → Proper (withTable s v) → Still (abstraction s) (abstraction (withTable s v))
   keeps-still proper proper′ =
@@ -119,8 +137,8 @@ module _ (s : Ledger) (v : List ℕ) (kept : Keeps (s .table) v) where
 
   -- no read that lives on is later than it was
   pub keeps-times :
-      (X k : ℕ) → LivesOn (s .table) v X → hasReadAccount (s .table) X k ≡ true → readTime v X k ≤ readTime (s .table) X k
-  keeps-times X k l has = le-of-eq (ap (λ entry. entry - 1) (entry-kept X k l has))
+      (X k : ℕ) → LivesOn (s .table) v X → hasReadAccount (s .table) X k ≡ true → NoLater (s .table) X v X k
+  keeps-times X k l has = let (entry, time) = words-kept X k l has in same-no-later (s .table) v X k entry time
 
   pub keeps-old : RecordsKept (s .table) v → Old (abstraction s) (abstraction (withTable s v)) (Stale s) (Stale (withTable s v))
   keeps-old records X Q k x has seen =

@@ -1,15 +1,15 @@
--- What holds of those who wait in the queue, by the order in which they wait: a ready one has a good verdict, one with a good
+-- What holds of those who wait in a queue, by the order in which they wait: a ready one has a good verdict, one with a good
 -- verdict would pass now, and it has read nothing that a sibling before it is about to write. A step that leaves each of them
 -- alone keeps this. Assumes nothing.
-use Prim.Native.Nat.{ℕ, _-_, _<_}
-use native.Mathlib.Nat.{le-of-eq}
+use Prim.Native.Nat.{ℕ, _<_}
 use native.Mathlib.Omega.{arith}
-use mathlib.Core.Path.{_≡_, sym, ap, _∙_}
+use mathlib.Core.Path.{_≡_, sym, _∙_}
+use mathlib.Core.Logic.{inl, inr}
 use mathlib.Core.Bool.{Bool, true, false, cond}
 use mathlib.Core.List.{List, [], _∷_, _++_}
 use Rattle.rules.specs.Range.{filter}
 use Rattle.rules.specs.Card.{accountCount}
-use Rattle.rules.specs.Table.{parentField, parentOf, readField, hasRead, writeField, hasWritten, isCommitted}
+use Rattle.rules.specs.Table.{parentField, parentOf, readField, hasRead, subTimeField, writeField, hasWritten, isCommitted}
 use Rattle.rules.specs.Queue.{Entry, hasFailed, isReady}
 use Rattle.rules.specs.Sound.{IsStarted}
 use Rattle.rules.specs.Ledger.{Ledger}
@@ -17,7 +17,7 @@ use Rattle.rules.proofs.Laws.Each.{Each, each-both, each-filter, each-a
 use Rattle.rules.proofs.Serial.Stale.{Passes}
 use Rattle.rules.proofs.Demand.Abstraction.{abstraction, Stale}
 use Rattle.rules.proofs.Demand.AbstractionLaws.{read-account, read-entered, account-read}
-use Rattle.rules.proofs.Demand.Views.{RowKept, record-committed, stale-by-kept-row}
+use Rattle.rules.proofs.Demand.Views.{RowKept, record-committed, same-no-later, stale-by-kept-row}
 
 -- ---- the fact
 
@@ -76,24 +76,25 @@ module _ (s t : Ledger) (none : NoneCommits (s .table) (t .table)) (X : ℕ) (ro
   stale-before : {Q k : ℕ} → k < accountCount → Stale t X Q k → Stale s X Q k
   stale-before {Q} {k} account st =
       let (begun, kept) = none (st .holder) (st .begun) (record-committed (t .table) Q (st .holder) (st .isRecord)) in
-      stale-by-kept-row t s account st begun (λ g inside. sym (kept g inside))
-      (le-of-eq (ap (λ entry. entry - 1) (sym (row (readField k) (omega arith)))))
+      stale-by-kept-row t s account st begun (λ g field. sym (kept g field))
+      (same-no-later (t .table) (s .table) X k (sym (row (readField k) (inl (omega arith))))
+      (sym (row (subTimeField k) (inr (omega arith, omega arith)))))
 
   pub passes-still : Passes (abstraction s) (Stale s) X → Passes (abstraction t) (Stale t) X
   passes-still passes k has st =
       let account = read-account (t .table) X k has in
       passes k
-      (account-read (s .table) X k account (rw (row (readField k) (omega arith)) at (read-entered (t .table) X k has)))
-      (rw (row parentField (omega arith)) at (stale-before account st))
+      (account-read (s .table) X k account (rw (row (readField k) (inl (omega arith))) at (read-entered (t .table) X k has)))
+      (rw (row parentField (inl (omega arith))) at (stale-before account st))
 
 -- a row that is kept, at a step at which nobody commits
 pub row-alone :
     (s t : Ledger) → NoneCommits (s .table) (t .table) → (e : Entry) → RowKept (s .table) (t .table) (e .number) → LeftAlone s t e
 row-alone s t none e row =
     record {
-      parent = row parentField (omega arith);
-      reads = λ k account has. rw (row (readField k) (omega arith)) at has;
-      writes = λ k account written. rw (row (writeField k) (omega arith)) at written;
+      parent = row parentField (inl (omega arith));
+      reads = λ k account has. rw (row (readField k) (inl (omega arith))) at has;
+      writes = λ k account written. rw (row (writeField k) (inl (omega arith))) at written;
       passes = λ _. passes-still s t none (e .number) row;
     }
 

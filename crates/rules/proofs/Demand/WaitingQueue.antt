@@ -1,8 +1,9 @@
 -- What holds of those who wait holds when one more has entered, when one becomes ready whose verdict is good, and when some are
--- taken out. Assumes nothing.
+-- taken out: of the queue that changes, and of the other, which stays. Assumes nothing.
 use Prim.Native.Nat.{ℕ}
+use native.Mathlib.Decide.{ℕ-discrete}
 use mathlib.Core.Path.{_≡_, refl, sym}
-use mathlib.Core.Logic.{_⊎_, inl, inr, ⊎-elim}
+use mathlib.Core.Logic.{_⊎_, inl, inr, ⊎-elim, _≢_}
 use mathlib.Core.Bool.{Bool, true, false, not, cond, _&&_, false≢true}
 use mathlib.Core.List.{List, [], _∷_, _++_, map}
 use lib.Dec.{eqb}
@@ -11,25 +12,27 @@ use Rattle.rules.specs.declared.Found.{Found}
 use Rattle.rules.specs.declared.Found.the-variants.{Nothing, At}
 use Rattle.rules.specs.Range.{any, filter}
 use Rattle.rules.specs.Card.{accountCount, accounts}
-use Rattle.rules.specs.Table.{hasRead, hasWritten}
-use Rattle.rules.specs.Queue.{theQueue, Entry, good, failed, hasFailed, ready, isReady, isOf, queue, isQueued, isQueuedFailed, withQueue, newEntry, withTail, readied, withReady, keepsPlace, withoutBelow}
+use Rattle.rules.specs.Kind.{IsKind}
+use Rattle.rules.specs.Table.{parentOf, kindOf, hasRead, hasWritten}
+use Rattle.rules.specs.Queue.{Entry, good, failed, hasFailed, ready, isReady, isOf, queue, isQueued, isQueuedFailed, withQueue, newEntry, withTail, readied, withReady, keepsPlace, withoutBelow}
 use Rattle.rules.specs.Sound.{SoundQueue}
 use Rattle.rules.specs.Ledger.{Ledger, withTable}
 use Rattle.rules.specs.Clash.{isClear, firstClash}
 use Rattle.rules.specs.Verdict.{meets, isMetBy, isMetInQueue, verdictOf}
-use Rattle.rules.specs.Step.{takenOut, enter}
+use Rattle.rules.specs.Step.{takenOut, enterTable, enter}
 use Rattle.rules.proofs.Laws.Tests.{and-left, and-right, and-both, and-fails, or-neither, not-both, cond-holds}
 use Rattle.rules.proofs.Laws.Ranges.{any-at}
 use Rattle.rules.proofs.Laws.Sets.{account-within}
+use Rattle.rules.proofs.Laws.Kinds.{kind-known}
 use Rattle.rules.proofs.Laws.Each.{Each, each-all, each-mapped}
 use Rattle.rules.proofs.Laws.Permitted.{Committable}
-use Rattle.rules.proofs.Sound.QueueChanges.{queue-change, tail-queue, tail-change, readied-number, ready-queue, ready-change, without-queue, without-change}
+use Rattle.rules.proofs.Sound.QueueChanges.{other-queue, queue-change, tail-queue, tail-change, readied-number, ready-queue, ready-change, without-queue, without-change}
 use Rattle.rules.proofs.Demand.Proper.{Proper}
 use Rattle.rules.proofs.Demand.Drops.{queue-rows}
 use Rattle.rules.proofs.Demand.Views.{RowKept}
 use Rattle.rules.proofs.Demand.Passes.{no-clash-passes}
 use Rattle.rules.proofs.Demand.Waiting.{Here, Behind, Waits, LeftAlone, waits-alone, NoneCommits, row-alone, waits-filter, waits-append}
-use Rattle.rules.proofs.Demand.WaitingSteps.{Waiting, each-listed}
+use Rattle.rules.proofs.Demand.WaitingSteps.{Waiting, each-listed, queue-waits}
 
 -- what follows where a test fails holds of each where none passes it
 each-failing :
@@ -43,25 +46,41 @@ each-failing P f (e ∷ es) none follows =
 -- ---- a queue put in
 
 module _
-    (s : Ledger) (proper : Proper s) (es : List Entry) (line : SoundQueue (withQueue (s .table) theQueue es) theQueue)
-    (stands : queue (withQueue (s .table) theQueue es) theQueue ≡ es) where
+    (s : Ledger) (proper : Proper s) (h : ℕ) (known : IsKind h) (es : List Entry)
+    (line : SoundQueue (withQueue (s .table) h es) h) (stands : queue (withQueue (s .table) h es) h ≡ es) where
   abbrev given : Ledger
-  given = withTable s (withQueue (s .table) theQueue es)
+  given = withTable s (withQueue (s .table) h es)
 
   none-commits : NoneCommits (s .table) (given .table)
-  none-commits m h done =
-      (rw (queue-change (s .table) (proper .sound) es line 0 .sameStarted) at h, queue-rows s proper es line m (h .0))
+  none-commits m begun done = (
+    rw (queue-change (s .table) (proper .sound) h known es line 0 .sameStarted) at begun,
+    queue-rows s proper h known es line m (begun .0),
+  )
 
   listed-row : (e : Entry) → any (isOf (e .number)) es ≡ true → RowKept (s .table) (given .table) (e .number)
   unfolding isQueued
-  listed-row e listed = queue-rows s proper es line (e .number) (line .waits (e .number) (rw stands listed) .begun .0)
+  listed-row e listed = queue-rows s proper h known es line (e .number) (line .waits (e .number) (rw stands listed) .begun .0)
 
-  -- what holds of the entries before holds of those who wait then
-  given-waits : Waits s es → Waiting (withTable s (withQueue (s .table) theQueue es))
-  given-waits waits =
+  -- what holds of the entries before holds of those who wait in this queue then
+  put-waits : Waits s es → Waits given (queue (given .table) h)
+  put-waits waits =
       rw stands
       (waits-alone s given es
       (each-listed (LeftAlone s given) es (λ e listed. row-alone s given none-commits e (listed-row e listed))) waits)
+
+  -- .. and of the other queue what held of it
+  other-waits : (x : ℕ) → IsKind x → x ≢ h → Waits s (queue (s .table) x) → Waits given (queue (given .table) x)
+  other-waits x is apart waits =
+      rw (other-queue (s .table) (proper .sound) h known es x is apart)
+      (queue-waits s given x none-commits
+      (λ X queued. queue-rows s proper h known es line X (proper .sound .lines x is .waits X queued .begun .0)) waits)
+
+  given-waits : Waiting s → Waits s es → Waiting (withTable s (withQueue (s .table) h es))
+  given-waits before waits x is = go (ℕ-discrete x h)
+    where
+      go : Dec (x ≡ h) → Waits given (queue (given .table) x)
+      go (yes same) = rw same (put-waits waits)
+      go (no apart) = other-waits x is apart (before x is)
 
 module _ (s : Ledger) (proper : Proper s) where
   abbrev w : List ℕ
@@ -70,10 +89,17 @@ module _ (s : Ledger) (proper : Proper s) where
   -- ---- one more at the tail
 
   module _ (n : ℕ) (free : Committable w n) where
+    -- its queue
+    abbrev h : ℕ
+    h = kindOf w n
+
+    known : IsKind h
+    known = kind-known (parentOf w n)
+
     -- the verdict is good where there is no clash and none who waits is in the way
-    good-verdict : hasFailed (newEntry n (verdictOf w theQueue n)) ≡ false → (isClear (firstClash w n) && not (isMetInQueue w theQueue n)) ≡ true
+    good-verdict : hasFailed (newEntry n (verdictOf w h n)) ≡ false → (isClear (firstClash w n) && not (isMetInQueue w h n)) ≡ true
     unfolding verdictOf
-    good-verdict = by-verdict (isClear (firstClash w n) && not (isMetInQueue w theQueue n))
+    good-verdict = by-verdict (isClear (firstClash w n) && not (isMetInQueue w h n))
       where
         by-verdict : (b : Bool) → not (eqb (cond b good failed) good) ≡ false → b ≡ true
         by-verdict true fine = refl
@@ -84,7 +110,7 @@ module _ (s : Ledger) (proper : Proper s) where
     clear-none (At t k) clear = absurd (false≢true clear)
 
     abbrev newest : Entry
-    newest = newEntry n (verdictOf w theQueue n)
+    newest = newEntry n (verdictOf w h n)
 
     newest-here : Here s newest
     newest-here =
@@ -102,24 +128,26 @@ module _ (s : Ledger) (proper : Proper s) where
         (any-at (λ j. hasWritten w (e .number) j && hasRead w n j) 0 accountCount k (account-within account) (and-both written has)))
         unmet
 
-    newest-behind : (b : Bool) → hasFailed newest ≡ b → Each (λ e. Behind s e newest) (queue w theQueue)
+    newest-behind : (b : Bool) → hasFailed newest ≡ b → Each (λ e. Behind s e newest) (queue w h)
     unfolding isMetInQueue
-    newest-behind true not-good = each-all (λ e. Behind s e newest) (λ e fine. absurd (not-both not-good fine)) (queue w theQueue)
+    newest-behind true not-good = each-all (λ e. Behind s e newest) (λ e fine. absurd (not-both not-good fine)) (queue w h)
     newest-behind false fine =
-        each-failing (λ e. Behind s e newest) (λ e. isMetBy w n (e .number)) (queue w theQueue)
+        each-failing (λ e. Behind s e newest) (λ e. isMetBy w n (e .number)) (queue w h)
         (not-true _ (and-right (isClear (firstClash w n)) _ (good-verdict fine))) (unmet-behind fine)
 
     pub waits-enter : Waiting s → Waiting (enter s n .after)
-    unfolding enter withTail
+    unfolding enter enterTable withTail
     waits-enter waits =
-        given-waits s proper (queue w theQueue ++ (newest ∷ []))
-        (tail-change (proper .sound) n free (verdictOf w theQueue n) 0 .line)
-        (tail-queue (proper .sound) n free (verdictOf w theQueue n))
-        (waits-append s (queue w theQueue) newest waits newest-here (newest-behind (hasFailed newest) refl))
+        let verdict = verdictOf w h n in
+        given-waits s proper h known (queue w h ++ (newest ∷ []))
+        (tail-change (proper .sound) h known n refl free verdict 0 .lines h known)
+        (tail-queue (proper .sound) h known n refl free verdict)
+        waits
+        (waits-append s (queue w h) newest (waits h known) newest-here (newest-behind (hasFailed newest) refl))
 
   -- ---- one becomes ready
 
-  module _ (n : ℕ) where
+  module _ (h : ℕ) (known : IsKind h) (n : ℕ) where
     readied-verdict : (e : Entry) → readied n e .verdict ≡ e .verdict
     unfolding readied
     readied-verdict e = cond-holds (λ (x : Entry). x .verdict ≡ e .verdict) (isOf n e) (λ _. refl) (λ _. refl)
@@ -141,12 +169,12 @@ module _ (s : Ledger) (proper : Proper s) where
         record {
           earned = λ now.
               rw (readied-verdict e) (⊎-elim (and-fails (isOf n e) (hasFailed e) .0 fine) (here .earned) (readied-ready e now));
-          passes = λ good-one. rw (readied-number (proper .sound) n e) (here .passes (rw (readied-verdict e) at good-one));
+          passes = λ good-one. rw (readied-number (proper .sound) h known n e) (here .passes (rw (readied-verdict e) at good-one));
         }
 
     readied-behind : (e d : Entry) → Behind s e d → Behind s (readied n e) (readied n d)
     readied-behind e d behind =
-        rw (readied-number (proper .sound) n e, readied-number (proper .sound) n d, readied-verdict d) behind
+        rw (readied-number (proper .sound) h known n e, readied-number (proper .sound) h known n d, readied-verdict d) behind
 
     waits-readied :
         (es : List Entry) → any (λ e. isOf n e && hasFailed e) es ≡ false → Waits s es → Waits s (map (readied n) es)
@@ -159,30 +187,31 @@ module _ (s : Ledger) (proper : Proper s) where
           waits-readied es later rest,
         )
 
-    pub waits-ready : isQueuedFailed w theQueue n ≡ false → Waiting s → Waiting (withTable s (withReady w theQueue n))
+    pub waits-ready : isQueuedFailed w h n ≡ false → Waiting s → Waiting (withTable s (withReady w h n))
     unfolding withReady isQueuedFailed
     waits-ready fine waits =
-        given-waits s proper (map (readied n) (queue w theQueue)) (ready-change (proper .sound) n 0 .line) (ready-queue (proper .sound) n)
-        (waits-readied (queue w theQueue) fine waits)
+        given-waits s proper h known (map (readied n) (queue w h)) (ready-change (proper .sound) h known n 0 .lines h known)
+        (ready-queue (proper .sound) h known n) waits (waits-readied (queue w h) fine (waits h known))
 
   -- ---- some are taken out
 
-  -- what holds of those who wait holds also after, of those taken out too
-  pub waits-after-out : (n : ℕ) → Waiting s → Waits (takenOut s theQueue n) (queue w theQueue)
-  unfolding withoutBelow isQueued
-  waits-after-out n waits =
-      let fewer = filter (keepsPlace w n) (queue w theQueue) in
-      let line = without-change (proper .sound) n 0 .line in
-      let t = takenOut s theQueue n in
-      waits-alone s t (queue w theQueue)
-      (each-listed (LeftAlone s t) (queue w theQueue)
-      (λ e listed.
-      row-alone s t (none-commits s proper fewer line (without-queue (proper .sound) n)) e
-      (queue-rows s proper fewer line (e .number) (proper .sound .line .waits (e .number) listed .begun .0))))
-      waits
+  module _ (h : ℕ) (known : IsKind h) (n : ℕ) where
+    abbrev fewer : List Entry
+    fewer = filter (keepsPlace w n) (queue w h)
 
-  pub waits-out : (n : ℕ) → Waiting s → Waiting (takenOut s theQueue n)
-  unfolding withoutBelow
-  waits-out n waits =
-      given-waits s proper (filter (keepsPlace w n) (queue w theQueue)) (without-change (proper .sound) n 0 .line)
-      (without-queue (proper .sound) n) (waits-filter s (keepsPlace w n) (queue w theQueue) waits)
+    line : SoundQueue (withQueue w h fewer) h
+    unfolding withoutBelow
+    line = without-change (proper .sound) h known n 0 .lines h known
+
+    -- what holds of those who wait holds also after, of those taken out too
+    pub waits-after-out : Waiting s → Waits (takenOut s h n) (queue w h)
+    unfolding withoutBelow
+    waits-after-out waits =
+        queue-waits s (takenOut s h n) h (none-commits s proper h known fewer line (without-queue (proper .sound) h known n))
+        (λ X queued. queue-rows s proper h known fewer line X (proper .sound .lines h known .waits X queued .begun .0)) (waits h known)
+
+    pub waits-out : Waiting s → Waiting (takenOut s h n)
+    unfolding withoutBelow
+    waits-out waits =
+        given-waits s proper h known fewer line (without-queue (proper .sound) h known n) waits
+        (waits-filter s (keepsPlace w n) (queue w h) (waits h known))

@@ -10,31 +10,34 @@ use mathlib.Core.List.{List, [], _∷_}
 use lib.Dec.{eqb}
 use borrow.Author.Tests.{eqb-true, eq-eqb}
 use Rattle.rules.specs.Range.{any}
+use Rattle.rules.specs.Kind.{IsKind}
 use Rattle.rules.specs.Table.{committed, aborted, started, stateField, stateOf, withState, isLive, isCommitted}
 use Rattle.rules.specs.Walk.{isAbortedBy}
-use Rattle.rules.specs.Queue.{theQueue, Entry, isOf, queue, isQueued}
+use Rattle.rules.specs.Queue.{Entry, isOf, queue, isQueued, isWaiting}
 use Rattle.rules.specs.Sound.{IsStarted}
 use Rattle.rules.specs.Ledger.{Ledger, withTable}
 use Rattle.rules.specs.Step.{startTable, start, readTable, read, abortTable, failedLedger}
 use Rattle.rules.specs.Serial.Effect.{Effect}
 use Rattle.rules.proofs.Laws.Tests.{and-left, or-inl, or-inr, not-both, false-of-not-true}
 use Rattle.rules.proofs.Laws.Words.{word-same, word-other-row}
+use Rattle.rules.proofs.Laws.Kinds.{unqueued-in}
 use Rattle.rules.proofs.Laws.Queue.{SameLine, queue-kept}
 use Rattle.rules.proofs.Laws.Each.{Each}
 use Rattle.rules.proofs.Laws.Permitted.{Startable, Touchable, Committable}
 use Rattle.rules.proofs.Sound.TableChanges.{live-uncommitted}
+use Rattle.rules.proofs.Sound.QueueChanges.{action-width}
 use Rattle.rules.proofs.Sound.Starting.{start-keeps-row, start-line, start-started, start-state}
 use Rattle.rules.proofs.Sound.Reading.{read-keeps-field, read-keeps-row, read-line, read-change}
 use Rattle.rules.proofs.Sound.Judging.{fail-line, fail-change}
-use Rattle.rules.proofs.Sound.Aborting.{abort-keeps-row, abort-keeps-committed, abort-line, abort-change}
+use Rattle.rules.proofs.Sound.Aborting.{Spared, abort-keeps-row, abort-keeps-committed, abort-line, abort-change}
 use Rattle.rules.proofs.Demand.Proper.{Proper}
 use Rattle.rules.proofs.Demand.Views.{RowKept}
 use Rattle.rules.proofs.Demand.Entering.{Entering}
 use Rattle.rules.proofs.Demand.Waiting.{Waits, LeftAlone, waits-alone, NoneCommits, row-alone}
 
--- of all who wait
+-- of all who wait, queue by queue
 abbrev pub Waiting : Ledger → Type 0
-Waiting s = Waits s (queue (s .table) theQueue)
+Waiting s = (h : ℕ) → IsKind h → Waits s (queue (s .table) h)
 
 -- what holds of each number that is listed holds of each entry
 pub each-listed : (P : Entry → Type 0) (es : List Entry) → ((e : Entry) → any (isOf (e .number)) es ≡ true → P e) → Each P es
@@ -43,16 +46,27 @@ each-listed P [] every = tt
 each-listed P (e ∷ es) every =
     (every e (or-inl _ (eq-eqb (e .number) (e .number) refl)), each-listed P es (λ d listed. every d (or-inr (eqb (d .number) (e .number)) listed)))
 
--- ---- a step that keeps the queue
+-- ---- a step that keeps both queues
+
+-- whoever waits keeps its row
+abbrev pub RowsKept : List ℕ → List ℕ → Type 0
+RowsKept w v = (h : ℕ) → IsKind h → (X : ℕ) → isQueued w h X ≡ true → RowKept w v X
+
+-- a queue of which nobody leaves, at a step at which nobody commits
+pub queue-waits :
+    (s t : Ledger) (h : ℕ) → NoneCommits (s .table) (t .table) →
+    ((X : ℕ) → isQueued (s .table) h X ≡ true → RowKept (s .table) (t .table) X) →
+    Waits s (queue (s .table) h) → Waits t (queue (s .table) h)
+unfolding isQueued
+queue-waits s t h none rows =
+    waits-alone s t (queue (s .table) h)
+    (each-listed (LeftAlone s t) (queue (s .table) h) (λ e listed. row-alone s t none e (rows (e .number) listed)))
 
 pub waiting-kept :
-    (s t : Ledger) → SameLine (s .table) (t .table) theQueue → NoneCommits (s .table) (t .table) →
-    ((X : ℕ) → isQueued (s .table) theQueue X ≡ true → RowKept (s .table) (t .table) X) → Waiting s → Waiting t
-unfolding isQueued
-waiting-kept s t same none rows waits =
-    rw (queue-kept (s .table) (t .table) theQueue (omega arith) same)
-    (waits-alone s t (queue (s .table) theQueue)
-    (each-listed (LeftAlone s t) (queue (s .table) theQueue) (λ e listed. row-alone s t none e (rows (e .number) listed))) waits)
+    (s t : Ledger) → ((h : ℕ) → IsKind h → SameLine (s .table) (t .table) h) → NoneCommits (s .table) (t .table) →
+    RowsKept (s .table) (t .table) → Waiting s → Waiting t
+waiting-kept s t same none rows waits h known =
+    rw (queue-kept (s .table) (t .table) h known (same h known)) (queue-waits s t h none (rows h known) (waits h known))
 
 -- where n hasn't committed in v, and all others keep their words, nobody commits
 others-kept :
@@ -66,16 +80,16 @@ module _ (s : Ledger) (proper : Proper s) where
   w = s .table
 
   -- nor is one who waits
-  waiting-other : {n : ℕ} → isQueued w theQueue n ≡ false → (X : ℕ) → isQueued w theQueue X ≡ true → X ≢ n
-  waiting-other unqueued X queued same = not-both queued (rw same unqueued)
+  waiting-other : {n : ℕ} → isWaiting w n ≡ false → (h : ℕ) → IsKind h → (X : ℕ) → isQueued w h X ≡ true → X ≢ n
+  waiting-other {n} unqueued h known X queued same = not-both queued (rw same (unqueued-in w n unqueued h known))
 
-  waiting-started : (X : ℕ) → isQueued w theQueue X ≡ true → IsStarted w X
-  waiting-started X queued = proper .sound .line .waits X queued .begun
+  waiting-started : (h : ℕ) → IsKind h → (X : ℕ) → isQueued w h X ≡ true → IsStarted w X
+  waiting-started h known X queued = proper .sound .lines h known .waits X queued .begun
 
   -- a start
   module _ (p : ℕ) (permitted : Startable w p) where
     old-row : (m : ℕ) → IsStarted w m → RowKept w (startTable w p) m
-    old-row m begun g inside = start-keeps-row w p m g (omega arith) (begun .0) (λ z. omega (arith, begun))
+    old-row m begun g inside = start-keeps-row w p m g (action-width g inside) (begun .0) (λ z. omega (arith, begun))
 
     old-committed : NoneCommits w (startTable w p)
     old-committed m begun done = cases (ℕ-discrete m (started w + 1))
@@ -92,16 +106,18 @@ module _ (s : Ledger) (proper : Proper s) where
     pub waits-start : Waiting s → Waiting (start s p .after)
     unfolding start
     waits-start =
-        waiting-kept s (withTable s (startTable w p)) (start-line w p) old-committed (λ X queued. old-row X (waiting-started X queued))
+        waiting-kept s (withTable s (startTable w p)) (start-line w p) old-committed
+        (λ h known X queued. old-row X (waiting-started h known X queued))
 
   -- a read
   module _ (n k : ℕ) (permitted : Touchable w n k) where
     read-row : (m : ℕ) → 1 ≤ m → m ≢ n → RowKept w (readTable w n k) m
-    read-row m _ other g inside = read-keeps-row w n k (permitted .account) m g (omega arith) other
+    read-row m _ other g inside = read-keeps-row w n k (permitted .account) m g (action-width g inside) other
 
     reader-live : isLive (readTable w n k) n ≡ true
     reader-live =
-        rw (read-keeps-field w n k (permitted .account) n stateField (omega arith) (λ z. omega arith)) (permitted .alive)
+        rw (read-keeps-field w n k (permitted .account) n stateField (omega arith) (λ z. omega arith) (λ z. omega arith))
+        (permitted .alive)
 
     pub waits-read : Waiting s → Waiting (read s n k .after)
     unfolding read
@@ -109,7 +125,7 @@ module _ (s : Ledger) (proper : Proper s) where
         let change = read-change w n k (permitted .account) (proper .sound) (permitted .own) in
         waiting-kept s (withTable s (readTable w n k)) (read-line w n k (permitted .account) (proper .sound) (permitted .own))
         (others-kept w (readTable w n k) n (change .sameStarted) (live-uncommitted (readTable w n k) n reader-live) read-row)
-        (λ X queued. read-row X (waiting-started X queued .0) (waiting-other (permitted .unqueued) X queued))
+        (λ h known X queued. read-row X (waiting-started h known X queued .0) (waiting-other (permitted .unqueued) h known X queued))
 
   -- a write or an add
   pub waits-entering :
@@ -118,12 +134,12 @@ module _ (s : Ledger) (proper : Proper s) where
       let still-live : isLive (t .table) n ≡ true = rw (enters .fields n stateField (omega arith)) (permitted .alive) in
       waiting-kept s t (enters .sameLine)
       (others-kept w (t .table) n (enters .change .sameStarted) (live-uncommitted (t .table) n still-live) (λ m _. enters .rows m))
-      (λ X queued. enters .rows X (waiting-other (permitted .unqueued) X queued))
+      (λ h known X queued. enters .rows X (waiting-other (permitted .unqueued) h known X queued))
 
   -- an action that doesn't wait fails
   module _ (n : ℕ) (free : Committable w n) where
     fail-row : (m : ℕ) → 1 ≤ m → m ≢ n → RowKept w (withState w n aborted) m
-    fail-row m _ other g inside = word-other-row w n m stateField g aborted (omega arith) (omega arith) other
+    fail-row m _ other g inside = word-other-row w n m stateField g aborted (omega arith) (action-width g inside) other
 
     failed-uncommitted : isCommitted (withState w n aborted) n ≡ true → ⊥
     failed-uncommitted done =
@@ -135,12 +151,12 @@ module _ (s : Ledger) (proper : Proper s) where
     waits-fail =
         waiting-kept s (failedLedger s n) (fail-line w (proper .sound) n free)
         (others-kept w (withState w n aborted) n (fail-change w (proper .sound) n free .sameStarted) failed-uncommitted fail-row)
-        (λ X queued. fail-row X (waiting-started X queued .0) (waiting-other (free .unqueued) X queued))
+        (λ h known X queued. fail-row X (waiting-started h known X queued .0) (waiting-other (free .unqueued) h known X queued))
 
   -- an abort that reaches nobody who waits
-  module _ (n : ℕ) (spared : (m : ℕ) → isQueued w theQueue m ≡ true → isAbortedBy w n m ≡ false) where
+  module _ (n : ℕ) (spared : Spared w n (proper .sound)) where
     unreached-row : (m : ℕ) → isAbortedBy w n m ≡ false → RowKept w (abortTable w n) m
-    unreached-row m out g inside = abort-keeps-row w n m g (omega arith) (λ _ reached. not-both reached out)
+    unreached-row m out g inside = abort-keeps-row w n m g (action-width g inside) (λ _ reached. not-both reached out)
 
     -- whom it reaches hasn't committed
     committed-unreached : (m : ℕ) → IsStarted w m → isCommitted (abortTable w n) m ≡ true → isAbortedBy w n m ≡ false
@@ -157,4 +173,4 @@ module _ (s : Ledger) (proper : Proper s) where
     pub waits-abort : Waiting s → Waiting (withTable s (abortTable w n))
     waits-abort =
         waiting-kept s (withTable s (abortTable w n)) (abort-line w n (proper .sound)) abort-none-commits
-        (λ X queued. unreached-row X (spared X queued))
+        (λ h known X queued. unreached-row X (spared h known X queued))

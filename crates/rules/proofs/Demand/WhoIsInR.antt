@@ -14,28 +14,32 @@ use Rattle.rules.specs.declared.Found.{Found}
 use Rattle.rules.specs.declared.Found.the-variants.{Nothing, At}
 use Rattle.rules.specs.Card.{firstCharge, IsCharge, IsCard, baseLength, shadowLength}
 use Rattle.rules.specs.Amount.{isAmount, amountIn}
-use Rattle.rules.specs.Table.{stateField, parentOf, pendingSum}
+use Rattle.rules.specs.Table.{stateField, parentOf, kindOf, pendingSum}
 use Rattle.rules.specs.Event.{Event}
 use Rattle.rules.specs.Cause.{isCommitOutside}
-use Rattle.rules.specs.Ledger.{Ledger}
-use Rattle.rules.specs.Queue.{theQueue, isHeadReady, isQueuedFailed, withTail, withReady, withoutBelow}
+use Rattle.rules.specs.Ledger.{Ledger, withTable}
+use Rattle.rules.specs.Kind.{IsKind, topKind, subKind}
+use Rattle.rules.specs.Queue.{isHeadReady, withTail, withReady, withoutBelow}
 use Rattle.rules.specs.Commit.{committedUnder}
-use Rattle.rules.specs.Step.{Outcome, start, read, write, add, judged, takenOut, finished, committing, Left, leave, enter, revealed, judgeLeft, judgeAnswer, judge, dropped, abortLeft, abort, step, leaversAt, headIn, headOut, isHeadOutside}
+use Rattle.rules.specs.Step.{Outcome, start, read, write, add, judged, takenOut, finished, committing, Left, leave, leaveBoth, enterTable, enter, isJudgedFailed, revealed, judgeLeft, judgeAnswer, judge, outOfBoth, dropped, abortLeft, abort, step, leaversAt, headIn, headOut, isHeadOutside}
 use Rattle.rules.specs.Run.{run}
 use Rattle.rules.specs.Serial.Told.{told, toldAll}
 use Rattle.rules.specs.Serial.Demand.{newOver, toldOf}
 use Rattle.rules.specs.Serial.Starts.{noStarts, lineageOf, PlainR}
+use Rattle.rules.proofs.Laws.Kinds.{kind-known}
 use Rattle.rules.proofs.Laws.EventCases.{causeIn}
 use Rattle.rules.proofs.Laws.Permitted.{Startable, Touchable, Committable, Judgeable, not-own-parent, step-by-kind}
 use Rattle.rules.proofs.Sound.Starting.{start-parent}
 use Rattle.rules.proofs.Sound.Committing.{commit-keeps-row}
 use Rattle.rules.proofs.Sound.QueueChanges.{tail-change, ready-change, without-change, out-committable}
 use Rattle.rules.proofs.Sound.Leaving.{head-committable, leave-by-heads}
+use Rattle.rules.proofs.Serial.Values.{accountValues}
+use Rattle.rules.proofs.Serial.AbstractState.{AbstractState}
 use Rattle.rules.proofs.Serial.Lineages.{ordered-at-first, from-ordered, inR-by-rule, rule-decides}
 use Rattle.rules.proofs.Serial.Agreement.{Ends, Quiet, LetLeave, none-leaves, some-dropped, one-leaves, Tells, TellAll, no-more, tells-then, change-quiet, drop-quiet, change-tells, leave-tells, Agree, agree-at-first}
 use Rattle.rules.proofs.Serial.Following.{same-starts, same-acts}
 use Rattle.rules.proofs.Demand.Abstraction.{isAlive, abstraction}
-use Rattle.rules.proofs.Demand.Proper.{Proper, new-proper, step-keeps-proper, out-proper, dropped-proper}
+use Rattle.rules.proofs.Demand.Proper.{Proper, new-proper, step-keeps-proper, left-proper, out-proper, dropped-proper, head-out-proper, leave-proper}
 use Rattle.rules.proofs.Demand.AbstractionLaws.{new-nobody-alive, alive-started, alive-live, live-alive, abstract-tree}
 use Rattle.rules.proofs.Demand.Starts.{start-starts}
 use Rattle.rules.proofs.Demand.Reads.{read-told, read-reads}
@@ -74,41 +78,58 @@ module _
         nobody-new = c .nobody-new;
       }
 
--- ---- those who leave the queue
+-- ---- those who leave a queue
 
 -- the chain of those who leave, from one ledger to another
 abbrev Chain : Ledger → Left → Type 0
 Chain s left = Proper s → LetLeave (abstraction s) (abstraction (left .after)) (left .commits)
 
-module _ (s : Ledger) (proper : Proper s) where
-  -- some are taken out of the queue, which nobody sees
-  out-quiet : (n : ℕ) → Quiet (abstraction s) (abstraction (takenOut s theQueue n))
-  unfolding withoutBelow
-  out-quiet n = drop-quiet (queue-drops s proper _ (without-change (proper .sound) n n .line))
+-- some are taken out of queue h, which nobody sees
+out-quiet : (h : ℕ) → IsKind h → (s : Ledger) → Proper s → (n : ℕ) → Quiet (abstraction s) (abstraction (takenOut s h n))
+unfolding withoutBelow
+out-quiet h known s proper n = drop-quiet (queue-drops s proper h known _ (without-change (proper .sound) h known n n .lines h known))
 
-  module _ (ready : isHeadReady (s .table) theQueue ≡ true) (rest : Left) where
-    head-by-sums :
-        (b : Bool) → isHeadOutside theQueue s ≡ b → Chain (finished (headOut theQueue s) (headIn theQueue s) b) rest →
-        LetLeave (abstraction s) (abstraction (rest .after)) (committing (headIn theQueue s) b ++ rest .commits)
-    unfolding finished
-    head-by-sums true outside later =
-        let out = out-proper proper (headIn theQueue s) in
-        let free = head-committable s (proper .sound) ready in
-        some-dropped (out-quiet (headIn theQueue s))
-        (some-dropped (drop-quiet (fail-drops _ out (headIn theQueue s) free)) (later (fail-proper out (headIn theQueue s) free)))
-    head-by-sums false fits later =
-        let out = out-proper proper (headIn theQueue s) in
-        let free = head-committable s (proper .sound) ready in
-        let commits = abstract-commit out free refl fits in
-        some-dropped (out-quiet (headIn theQueue s))
-        (one-leaves (change-quiet (commits .change) (commits .nobody-new)) (commit-ends out free fits)
-        (later (committed-proper out free refl fits)))
+module _ (h : ℕ) (known : IsKind h) (s : Ledger) (proper : Proper s) (ready : isHeadReady (s .table) h ≡ true) (rest : Left) where
+  abbrev n : ℕ
+  n = headIn h s
 
-leave-chain : (s : Ledger) → Proper s → LetLeave (abstraction s) (abstraction (leave theQueue s .after)) (leave theQueue s .commits)
-leave-chain s proper =
-    leave-by-heads Chain (λ t sound proper′. none-leaves)
-    (λ t sound ready rest later proper′. head-by-sums t proper′ ready rest (isHeadOutside theQueue t) refl later)
+  head-by-sums :
+      (b : Bool) → isHeadOutside h s ≡ b → Chain (finished (headOut h s) n b) rest →
+      LetLeave (abstraction s) (abstraction (rest .after)) (committing n b ++ rest .commits)
+  unfolding finished
+  head-by-sums true outside later =
+      let out = head-out-proper h known s proper ready in
+      let free = head-committable h known s (proper .sound) ready in
+      some-dropped (out-quiet h known s proper n)
+      (some-dropped (drop-quiet (fail-drops _ out n free)) (later (fail-proper out n free)))
+  head-by-sums false fits later =
+      let out = head-out-proper h known s proper ready in
+      let free = head-committable h known s (proper .sound) ready in
+      let commits = abstract-commit out free refl fits in
+      some-dropped (out-quiet h known s proper n)
+      (one-leaves (change-quiet (commits .change) (commits .nobody-new)) (commit-ends out free fits)
+      (later (committed-proper out free refl fits)))
+
+leave-chain :
+    (h : ℕ) → IsKind h → (s : Ledger) → Proper s →
+    LetLeave (abstraction s) (abstraction (leave h s .after)) (leave h s .commits)
+leave-chain h known s proper =
+    leave-by-heads h known Chain (λ t sound proper′. none-leaves)
+    (λ t sound ready rest later proper′. head-by-sums h known t proper′ ready rest (isHeadOutside h t) refl later)
     s (proper .sound) proper
+
+-- one chain after another
+chain-then :
+    {a b c : AbstractState accountValues} {ns ms : List ℕ} → LetLeave a b ns → LetLeave b c ms → LetLeave a c (ns ++ ms)
+chain-then none-leaves then = then
+chain-then (some-dropped quiet rest) then = some-dropped quiet (chain-then rest then)
+chain-then (one-leaves quiet ends rest) then = one-leaves quiet ends (chain-then rest then)
+
+both-chain : (s : Ledger) → Proper s → LetLeave (abstraction s) (abstraction (leaveBoth s .after)) (leaveBoth s .commits)
+unfolding leaveBoth
+both-chain s proper =
+    chain-then (leave-chain topKind (omega arith) s proper)
+    (leave-chain subKind (omega arith) _ (leave-proper topKind (omega arith) s proper))
 
 -- ---- one event
 
@@ -165,40 +186,60 @@ module _ (s : Ledger) (proper : Proper s) (e : Event) where
   judges j Nothing fits = change-tells (abstract-commit proper j refl fits .change) (commit-ends proper j fits)
   judges j (At t k) fits = let d = fail-drops s proper (e .number) j in change-tells (d .still) (d .nobody-new)
 
+  -- the queue of its action
+  abbrev h : ℕ
+  h = kindOf (s .table) (e .number)
+
+  known : IsKind h
+  known = kind-known (parentOf (s .table) (e .number))
+
   enters : Committable (s .table) (e .number) → AsTold (enter s (e .number)) []
-  unfolding AsTold enter withTail
+  unfolding AsTold enter enterTable withTail
   enters free =
-      let d = queue-drops s proper _ (tail-change (proper .sound) (e .number) free _ (e .number) .line) in
+      let change = tail-change (proper .sound) h known (e .number) refl free _ (e .number) in
+      let d = queue-drops s proper h known _ (change .lines h known) in
       change-tells (d .still) (d .nobody-new)
 
   -- the verdict is revealed, and some leave
   revealed-chain :
       Judgeable (s .table) (e .number) → (b : Bool) (left : ℕ) →
-      AsTold (record { answer = judgeAnswer b left; after = leave theQueue (revealed s (e .number) b) .after })
-      (leave theQueue (revealed s (e .number) b) .commits)
+      AsTold (record { answer = judgeAnswer b left; after = leave h (revealed s (e .number) b) .after })
+      (leave h (revealed s (e .number) b) .commits)
   unfolding AsTold revealed withReady
   revealed-chain j true left =
-      let out = out-proper proper (e .number) in
-      let free = out-committable (proper .sound) (e .number) (j .queued) in
+      let out = left-proper proper (e .number) in
+      let free = out-committable (proper .sound) h known (e .number) (j .queued) in
       leave-tells (abstract-tree s proper)
-      (some-dropped (out-quiet s proper (e .number))
-      (some-dropped (drop-quiet (fail-drops _ out (e .number) free)) (leave-chain _ (fail-proper out (e .number) free))))
+      (some-dropped (out-quiet h known s proper (e .number))
+      (some-dropped (drop-quiet (fail-drops _ out (e .number) free)) (leave-chain h known _ (fail-proper out (e .number) free))))
   revealed-chain j false left =
-      let change = ready-change (proper .sound) (e .number) (e .number) in
+      let change = ready-change (proper .sound) h known (e .number) (e .number) in
       leave-tells (abstract-tree s proper)
-      (some-dropped (drop-quiet (queue-drops s proper _ (change .line))) (leave-chain _ (change-keeps-proper proper change)))
+      (some-dropped (drop-quiet (queue-drops s proper h known _ (change .lines h known)))
+      (leave-chain h known _ (change-keeps-proper proper change)))
 
   reveals : Judgeable (s .table) (e .number) → AsTold (judge s (e .number)) (judgeLeft s (e .number) .commits)
   unfolding judge judgeLeft
-  reveals j = revealed-chain j (isQueuedFailed (s .table) theQueue (e .number)) _
+  reveals j = revealed-chain j (isJudgedFailed (s .table) (e .number)) _
+
+  -- those whom it reaches are taken out of one queue and then of the other
+  both-out-quiet :
+      {t : AbstractState accountValues} {ns : List ℕ} →
+      LetLeave (abstraction (withTable s (outOfBoth (s .table) (e .number)))) t ns → LetLeave (abstraction s) t ns
+  unfolding outOfBoth
+  both-out-quiet later =
+      let half = change-keeps-proper proper (without-change (proper .sound) topKind (omega arith) (e .number) 0) in
+      some-dropped (out-quiet topKind (omega arith) s proper (e .number))
+      (some-dropped (out-quiet subKind (omega arith) _ half (e .number)) later)
 
   aborts : AsTold (abort s (e .number)) (abortLeft s (e .number) .commits)
   unfolding AsTold abort abortLeft dropped
   aborts =
       let out = out-proper proper (e .number) in
       leave-tells (abstract-tree s proper)
-      (some-dropped (out-quiet s proper (e .number))
-      (some-dropped (drop-quiet (abort-drops _ out (e .number) (spared proper (e .number)))) (leave-chain _ (dropped-proper proper (e .number)))))
+      (both-out-quiet
+      (some-dropped (drop-quiet (abort-drops _ out (e .number) (spared proper (e .number))))
+      (both-chain _ (dropped-proper proper (e .number)))))
 
   event-tells : Tells (abstraction s) (abstraction (step s e .after)) e (told (step s e .answer) (leaversAt s e))
   unfolding AsTold

@@ -5,8 +5,8 @@ use mathlib.Core.Path.{_≡_, refl, ap, _∙_}
 use mathlib.Core.Logic.{_⊎_, inl, inr, _≢_}
 use mathlib.Core.List.{List}
 use Rattle.rules.specs.Card.{accountCount, firstCharge, IsCard, shadowPlace}
-use Rattle.rules.specs.Table.{width, word, writeField, writeEntry, pendingField}
-use Rattle.rules.specs.Queue.{theQueue, queueLengthField}
+use Rattle.rules.specs.Table.{width, word, subTimeField, writeField, writeEntry, pendingField}
+use Rattle.rules.specs.Queue.{queueLengthField}
 use Rattle.rules.specs.Sound.{IsStarted}
 use Rattle.rules.specs.Ledger.{Ledger}
 use Rattle.rules.specs.Step.{writeTable, write}
@@ -16,6 +16,7 @@ use Rattle.rules.proofs.Laws.Permitted.{Touchable}
 use Rattle.rules.proofs.Sound.TableChanges.{TableChange, change-keeps-sound}
 use Rattle.rules.proofs.Sound.Writing.{write-keeps-field, write-keeps-row, write-entry, write-change}
 use Rattle.rules.proofs.Copies.Lines.{shadow-apart}
+use Rattle.rules.proofs.Sound.QueueChanges.{action-width}
 use Rattle.rules.proofs.Demand.Abstraction.{effectOf}
 use Rattle.rules.proofs.Demand.Proper.{Proper}
 use Rattle.rules.proofs.Demand.AbstractionLaws.{effect-card}
@@ -41,7 +42,7 @@ module _
   field-kept = write-keeps-field (s .table) (proper .sound) n k own alive account
 
   row-kept : (m : ℕ) → m ≢ n → RowKept (s .table) table′ m
-  row-kept m other g h = write-keeps-row (s .table) (proper .sound) n k own alive account m g (omega arith) other
+  row-kept m other g h = write-keeps-row (s .table) (proper .sound) n k own alive account m g (action-width g h) other
 
   card-fits : Fits (s .shadow) (shadowPlace n k)
   card-fits = shadow-fits proper n k own account
@@ -64,7 +65,7 @@ module _
       ∙ ap puts (cardAt-same (s .shadow) (shadowPlace n k) card card-fits whole)
 
   entry-elsewhere : (X j : ℕ) → j < accountCount → (X ≢ n) ⊎ (j ≢ k) → writeEntry table′ X j ≡ writeEntry (s .table) X j
-  entry-elsewhere X j h (inl other) = row-kept X other (writeField j) (omega arith)
+  entry-elsewhere X j h (inl other) = row-kept X other (writeField j) (inl (omega arith))
   entry-elsewhere X j h (inr other) = field-kept X (writeField j) (omega arith) (λ z. other (omega arith))
 
   effect-elsewhere : (X j : ℕ) → IsStarted (s .table) X → (X ≢ n) ⊎ (j ≢ k) → effectOf written X j ≡ effectOf s X j
@@ -86,10 +87,12 @@ module _
         change = table-change;
         fields = λ m g h. field-kept m g (omega arith) (λ z. omega arith);
         rows = row-kept;
+        subTimes = λ m j h. field-kept m (subTimeField j) (omega arith) (λ z. omega arith);
         sameLine =
+            λ h known.
             record {
-              sameLength = field-kept 0 (queueLengthField theQueue) (omega arith) (λ z. omega arith);
-              sameEntries = λ i g _ behind inside. field-kept i g inside (λ z. omega arith);
+              sameLength = field-kept 0 (queueLengthField h) (omega arith) (λ z. omega arith);
+              sameEntries = λ i g _ first last. field-kept i g (omega arith) (λ z. omega arith);
             };
         laid = effect-put;
         elsewhere = effect-elsewhere;

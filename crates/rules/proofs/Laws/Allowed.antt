@@ -8,11 +8,11 @@ use mathlib.Core.List.{List, [], _++_}
 use lib.ListN.{length}
 use Rattle.rules.specs.Card.{accountCount, isCharge, cardLength, baseLength, shadowLength}
 use Rattle.rules.specs.Amount.{isAddable, amountIn}
-use Rattle.rules.specs.Table.{mostActions, started, isLive, hasLiveChild}
-use Rattle.rules.specs.Queue.{theQueue, queueLength, isQueued, isQueuedReady}
+use Rattle.rules.specs.Table.{mostActions, started, kindOf, isLive, hasLiveChild}
+use Rattle.rules.specs.Queue.{queueLength, isQueued, isQueuedReady, isWaiting}
 use Rattle.rules.specs.Sound.{sound}
 use Rattle.rules.specs.Event.{Event, startCode, judgeCode, isStart, isRead, isWrite, isCommit, isAbort, isAdd, isEnter, isJudge}
-use Rattle.rules.specs.Cause.{isStoreLengthWrong, isCodeUnknown, isNumberUnknown, isNotLive, isTableFull, isAccountUnknown, isCardLengthWrong, isKindWrong, isAmountTooLarge, isChildLive, isWaiting, isJudgeVain, isOvertaking, isSumOutside, Cause, firstCause, storeCauses, earlyCauses, lateCauses, causesOf, causeOf}
+use Rattle.rules.specs.Cause.{isStoreLengthWrong, isCodeUnknown, isNumberUnknown, isNotLive, isTableFull, isAccountUnknown, isCardLengthWrong, isKindWrong, isAmountTooLarge, isChildLive, isQueuedAlready, isJudgeVain, isOvertaking, isSumOutside, Cause, firstCause, storeCauses, earlyCauses, lateCauses, causesOf, causeOf}
 use Rattle.rules.proofs.Laws.Tests.{not-holds, not-fails, and-holds, and-fails, and-fails-left, or-fails, eqb-holds, nonzero, leb-holds, leb-fails, ltb-fails}
 
 -- ---- what each cause denies
@@ -49,16 +49,16 @@ amount-small used card = simp (and-fails, not-fails) Iff·rfl
 child-finished : (w : List ℕ) (used : Bool) (n : ℕ) → (isChildLive w used n ≡ false) ↔ (used ≡ true → hasLiveChild w n ≡ false)
 child-finished w used n = and-fails used (hasLiveChild w n)
 
-not-waiting : (w : List ℕ) (used : Bool) (n : ℕ) → (isWaiting w used n ≡ false) ↔ (used ≡ true → isQueued w theQueue n ≡ false)
-not-waiting w used n = and-fails used (isQueued w theQueue n)
+not-waiting : (w : List ℕ) (used : Bool) (n : ℕ) → (isQueuedAlready w used n ≡ false) ↔ (used ≡ true → isWaiting w n ≡ false)
+not-waiting w used n = and-fails used (isWaiting w n)
 
 judge-due :
     (w : List ℕ) (used : Bool) (n : ℕ) →
-    (isJudgeVain w used n ≡ false) ↔ (used ≡ true → (isQueued w theQueue n ≡ true) × (isQueuedReady w theQueue n ≡ false))
+    (isJudgeVain w used n ≡ false) ↔ (used ≡ true → (isQueued w (kindOf w n) n ≡ true) × (isQueuedReady w (kindOf w n) n ≡ false))
 judge-due w used n = simp (and-fails, or-fails, not-fails) Iff·rfl
 
-queue-empty : (w : List ℕ) (used : Bool) → (isOvertaking w used ≡ false) ↔ (used ≡ true → queueLength w theQueue ≡ 0)
-queue-empty w used = simp (and-fails, not-fails, eqb-holds) Iff·rfl
+queue-empty : (w : List ℕ) (used : Bool) (n : ℕ) → (isOvertaking w used n ≡ false) ↔ (used ≡ true → queueLength w (kindOf w n) ≡ 0)
+queue-empty w used n = simp (and-fails, not-fails, eqb-holds) Iff·rfl
 
 -- ---- all of them together
 
@@ -75,9 +75,11 @@ pub record EarlyAllowed (w : List ℕ) (e : Event) : Type 0 where
   pub noCardOnCharge : isWrite e ≡ true → isCharge (e .account) ≡ false
   pub addable : isAdd e ≡ true → isAddable (amountIn (e .card)) ≡ true
   pub childless : (isRead e || isWrite e || isCommit e || isAdd e || isEnter e) ≡ true → hasLiveChild w (e .number) ≡ false
-  pub unqueued : not (isJudge e || isAbort e) ≡ true → isQueued w theQueue (e .number) ≡ false
-  pub judgeDue : isJudge e ≡ true → (isQueued w theQueue (e .number) ≡ true) × (isQueuedReady w theQueue (e .number) ≡ false)
-  pub queueEmpty : isCommit e ≡ true → queueLength w theQueue ≡ 0
+  pub unqueued : not (isJudge e || isAbort e) ≡ true → isWaiting w (e .number) ≡ false
+  pub judgeDue :
+      isJudge e ≡ true →
+      (isQueued w (kindOf w (e .number)) (e .number) ≡ true) × (isQueuedReady w (kindOf w (e .number)) (e .number) ≡ false)
+  pub queueEmpty : isCommit e ≡ true → queueLength w (kindOf w (e .number)) ≡ 0
 
 -- what holds of an event that isn't refused
 pub record Allowed (w base shadow : List ℕ) (e : Event) : Type 0 where
@@ -123,7 +125,7 @@ module _ (w : List ℕ) (e : Event) where
           childless = child-finished w (isRead e || isWrite e || isCommit e || isAdd e || isEnter e) (e .number) .0 childLive;
           unqueued = not-waiting w (not (isJudge e || isAbort e)) (e .number) .0 waiting;
           judgeDue = judge-due w (isJudge e) (e .number) .0 vain;
-          queueEmpty = queue-empty w (isCommit e) .0 overtaking;
+          queueEmpty = queue-empty w (isCommit e) (e .number) .0 overtaking;
         },
         none,
       )
@@ -147,7 +149,7 @@ module _ (w : List ℕ) (e : Event) where
         child-finished w (isRead e || isWrite e || isCommit e || isAdd e || isEnter e) (e .number) .1 (a .childless),
         not-waiting w (not (isJudge e || isAbort e)) (e .number) .1 (a .unqueued),
         judge-due w (isJudge e) (e .number) .1 (a .judgeDue),
-        queue-empty w (isCommit e) .1 (a .queueEmpty),
+        queue-empty w (isCommit e) (e .number) .1 (a .queueEmpty),
       )
 
 module _ (w base shadow : List ℕ) (e : Event) where

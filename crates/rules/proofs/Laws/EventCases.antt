@@ -1,4 +1,4 @@
--- One event, taken apart by its cause and by its kind: what holds of each outcome, and of who commits by leaving the queue there,
+-- One event, taken apart by its cause and by its kind: what holds of each outcome, and of who commits by leaving a queue there,
 -- holds of the event. Assumes nothing.
 use Prim.Native.Nat.{ℕ, _≤_}
 use native.Mathlib.Omega.{arith}
@@ -21,7 +21,7 @@ causeIn s e = causeOf (s .table) (s .base) (s .shadow) e
 abbrev pub AllowedIn : Ledger → Event → Type 0
 AllowedIn s e = Allowed (s .table) (s .base) (s .shadow) e
 
--- an outcome, and who commits by leaving the queue beside it
+-- an outcome, and who commits by leaving a queue beside it
 abbrev pub OfStep : Type 1
 OfStep = Outcome → List ℕ → Type 0
 
@@ -97,7 +97,7 @@ module _ (s : Ledger) (e : Event) (P : OfStep) (a : AllowedIn s e) where
 pub no-start : (e : Event) (code : ℕ) → eqb (e .code) code ≡ true → eqb code startCode ≡ false → isStart e ≡ false
 no-start e code is other = rw (eqb-true (e .code) code is) other
 
--- .. and may wait in the queue only where it is a judge or an abort
+-- .. and may wait in a queue only where it is a judge or an abort
 pub no-judge-or-abort :
     (e : Event) (code : ℕ) → eqb (e .code) code ≡ true → (eqb code judgeCode || eqb code abortCode) ≡ false →
     not (isJudge e || isAbort e) ≡ true

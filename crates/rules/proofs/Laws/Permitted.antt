@@ -13,9 +13,9 @@ use Rattle.rules.specs.declared.Found.{Found}
 use Rattle.rules.specs.declared.Found.the-variants.{Nothing}
 use Rattle.rules.specs.Card.{accountCount, firstCharge, chargeCount, isCharge, chargeAccounts, IsCharge, IsCard}
 use Rattle.rules.specs.Amount.{isAmount, isAddable, amountIn}
-use Rattle.rules.specs.Table.{mostActions, started, parentOf, hasWritten, pendingSum, ownAdds, isLive, isLiveChildOf, hasLiveChild, actions}
+use Rattle.rules.specs.Table.{mostActions, started, parentOf, kindOf, hasWritten, pendingSum, ownAdds, isLive, isLiveChildOf, hasLiveChild, actions}
 use Rattle.rules.specs.Sound.{IsStarted}
-use Rattle.rules.specs.Queue.{theQueue, queueLength, isQueued, isQueuedReady}
+use Rattle.rules.specs.Queue.{queueLength, isQueued, isQueuedReady, isWaiting}
 use Rattle.rules.specs.Event.{Event, startCode, readCode, writeCode, commitCode, abortCode, addCode, enterCode, judgeCode, isStart, isRead, isWrite, isCommit, isAdd, isEnter, isJudge}
 use Rattle.rules.specs.Ledger.{Ledger}
 use Rattle.rules.specs.Nearest.{readSum}
@@ -27,33 +27,33 @@ use Rattle.rules.proofs.Laws.Ranges.{not-any-at}
 use Rattle.rules.proofs.Laws.Sets.{charge-within}
 use Rattle.rules.proofs.Laws.EventCases.{causeIn, AllowedIn, OfStep, step-by-cause, act-by-kind, no-start, no-judge-or-abort}
 
--- an action may start under p: p is the store or live and doesn't wait in the queue, and there is a number left
+-- an action may start under p: p is the store or live and isn't queued, and there is a number left
 pub record Startable (w : List ℕ) (p : ℕ) : Type 0 where
   pub known : p ≤ started w
   pub alive : 1 ≤ p → isLive w p ≡ true
   pub room : started w < mostActions
-  pub unqueued : isQueued w theQueue p ≡ false
+  pub unqueued : isWaiting w p ≡ false
 
--- n may read account k, and write it or add to it: it is live, has no live child and doesn't wait in the queue
+-- n may read account k, and write it or add to it: it is live, has no live child and isn't queued
 pub record Touchable (w : List ℕ) (n k : ℕ) : Type 0 where
   pub own : IsStarted w n
   pub alive : isLive w n ≡ true
   pub childless : hasLiveChild w n ≡ false
-  pub unqueued : isQueued w theQueue n ≡ false
+  pub unqueued : isWaiting w n ≡ false
   pub account : k < accountCount
 
--- n may commit, fail or enter the queue: it is live, has no live child and doesn't wait in the queue
+-- n may commit, fail or enter its queue: it is live, has no live child and isn't queued
 pub record Committable (w : List ℕ) (n : ℕ) : Type 0 where
   pub own : IsStarted w n
   pub alive : isLive w n ≡ true
   pub childless : hasLiveChild w n ≡ false
-  pub unqueued : isQueued w theQueue n ≡ false
+  pub unqueued : isWaiting w n ≡ false
 
--- n's verdict may be revealed: it waits in the queue and isn't ready
+-- n's verdict may be revealed: it waits in its queue and isn't ready
 pub record Judgeable (w : List ℕ) (n : ℕ) : Type 0 where
   pub own : IsStarted w n
-  pub queued : isQueued w theQueue n ≡ true
-  pub unready : isQueuedReady w theQueue n ≡ false
+  pub queued : isQueued w (kindOf w n) n ≡ true
+  pub unready : isQueuedReady w (kindOf w n) n ≡ false
 
 -- n's add of this card's amount to charge account k adds no more than an event may, and the sums that it leaves are amounts
 pub record AddFits (w : List ℕ) (n k : ℕ) (card : List ℕ) : Type 0 where
@@ -150,7 +150,7 @@ module _ (s : Ledger) (e : Event) (P : OfStep) where
       P (read s (e .number) (e .account)) []) →
       (Touchable (s .table) (e .number) (e .account) → IsCard (e .card) → e .account < firstCharge →
       P (write s (e .number) (e .account) (e .card)) []) →
-      (Committable (s .table) (e .number) → queueLength (s .table) theQueue ≡ 0 →
+      (Committable (s .table) (e .number) → queueLength (s .table) (kindOf (s .table) (e .number)) ≡ 0 →
       (f : Found) → firstClash (s .table) (e .number) ≡ f →
       isCommitOutside (s .table) (s .base) (e .number) f ≡ false → P (judged s (e .number) f) []) →
       (Touchable (s .table) (e .number) (e .account) → IsCard (e .card) → IsCharge (e .account) →

@@ -1,4 +1,4 @@
--- The queue's words: what stands in the table after entries have been put there, and which changes leave the queue as it was.
+-- A queue's words: what stands in the table after entries have been put there, and which changes leave a queue as it was.
 -- Assumes nothing.
 use Prim.Native.Nat.{ℕ, suc, _+_, _≤_, _<_}
 use native.Mathlib.Nat.{add-suc, suc-add}
@@ -8,8 +8,9 @@ use mathlib.Core.Logic.{_⊎_, inl, inr, ⊎-elim, _≢_}
 use mathlib.Core.List.{List, [], _∷_, map}
 use lib.ListN.{length, length-map}
 use Rattle.rules.specs.Range.{upFrom}
-use Rattle.rules.specs.Table.{actionWidth, width, tableLength, mostActions, word, withWord}
-use Rattle.rules.specs.Queue.{IsQueue, queueLengthField, queueLength, numberField, verdictField, readyField, Entry, entryAt, withEntry, queue, withEntries, withQueue}
+use Rattle.rules.specs.Table.{width, tableLength, mostActions, word, withWord}
+use Rattle.rules.specs.Kind.{IsKind}
+use Rattle.rules.specs.Queue.{queueLengthField, queueLength, numberField, verdictField, readyField, Entry, entryAt, withEntry, queue, withEntries, withQueue}
 use Rattle.rules.proofs.Laws.Ranges.{map-agree, length-upFrom}
 use Rattle.rules.proofs.Laws.Words.{withWord-length, word-same, word-other-row, word-off-field}
 
@@ -23,7 +24,7 @@ off-field h g f (inr behind) first last z = omega arith
 
 -- ---- one entry
 
-module _ (w : List ℕ) (h : ℕ) (known : IsQueue h) (i : ℕ) (e : Entry) where
+module _ (w : List ℕ) (h : ℕ) (known : IsKind h) (i : ℕ) (e : Entry) where
   -- the table with the number, then the verdict put in; the readiness comes last
   abbrev numbered : List ℕ
   numbered = withWord w i (numberField h) (e .number)
@@ -90,7 +91,7 @@ module _ (w : List ℕ) (h : ℕ) (known : IsQueue h) (i : ℕ) (e : Entry) wher
 
 -- ---- several, at the positions from i on
 
-module _ (h : ℕ) (known : IsQueue h) where
+module _ (h : ℕ) (known : IsKind h) where
   pub withEntries-length : (w : List ℕ) (i : ℕ) (es : List Entry) → length (withEntries w h i es) ≡ length w
   unfolding withEntries
   withEntries-length w i [] = refl
@@ -186,9 +187,9 @@ queue-length w h = length-map (upFrom 1 (queueLength w h)) (entryAt w h) ∙ len
 -- queue h's words are the same in v
 pub record SameLine (w v : List ℕ) (h : ℕ) : Type 0 where
   pub sameLength : queueLength v h ≡ queueLength w h
-  pub sameEntries : (i g : ℕ) → 1 ≤ i → actionWidth ≤ g → g < width → word v i g ≡ word w i g
+  pub sameEntries : (i g : ℕ) → 1 ≤ i → numberField h ≤ g → g ≤ readyField h → word v i g ≡ word w i g
 
-pub queue-kept : (w v : List ℕ) (h : ℕ) → IsQueue h → SameLine w v h → queue v h ≡ queue w h
+pub queue-kept : (w v : List ℕ) (h : ℕ) → IsKind h → SameLine w v h → queue v h ≡ queue w h
 unfolding queue entryAt
 queue-kept w v h known same =
     rw (same .sameLength)

@@ -11,9 +11,10 @@ use lib.Dec.{eqb}
 use lib.Seq.{set-getD}
 use borrow.Author.Tests.{eq-eqb}
 use Rattle.rules.specs.Range.{upFrom}
+use Rattle.rules.specs.Kind.{IsKind}
 use Rattle.rules.specs.Table.{width, live, parentField, stateField, word, withWord}
 use Rattle.rules.specs.Walk.{isAbortedBy}
-use Rattle.rules.specs.Queue.{IsQueue, numberField, verdictField, readyField, queueLength, withQueueLength, Entry, entryAt, withEntry, isOf, queue, isQueued, withEntries}
+use Rattle.rules.specs.Queue.{numberField, verdictField, readyField, queueLength, withQueueLength, Entry, entryAt, withEntry, isOf, queue, isQueued, withEntries}
 use Rattle.rules.proofs.Laws.Ranges.{any-at}
 use Rattle.rules.proofs.Laws.Lists.{any-map}
 use Rattle.rules.proofs.Laws.Walking.{Climbs, atOrBelow-agree}
@@ -58,7 +59,7 @@ module _ (w : List ℕ) (h : ℕ) where
 
 -- a table that differs in words of a queue alone
 pub abortedBy-kept :
-    (w v : List ℕ) (h : ℕ) → IsQueue h → ((m g : ℕ) → g < width → OffEntry h g → word v m g ≡ word w m g) →
+    (w v : List ℕ) (h : ℕ) → IsKind h → ((m g : ℕ) → g < width → OffEntry h g → word v m g ≡ word w m g) →
     (n m : ℕ) → Climbs w m → isAbortedBy v n m ≡ isAbortedBy w n m
 abortedBy-kept w v h known off n m up =
     ap₂ _&&_ (ap (λ x. eqb x live) (off m stateField (omega arith) (inl (omega arith))))

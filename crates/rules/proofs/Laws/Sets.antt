@@ -3,12 +3,12 @@
 use Prim.Native.Nat.{ℕ, _≤_, _<_}
 use native.Mathlib.Omega.{arith}
 use mathlib.Core.Path.{_≡_, _∙_}
-use mathlib.Core.Logic.{_⊎_, inl, inr, _≢_}
+use mathlib.Core.Logic.{_⊎_, inl, inr, ⊎-elim, ⊎-map, _≢_}
 use mathlib.Core.List.{List}
 use lib.ListN.{length}
 use Rattle.rules.specs.Range.{upFrom}
 use Rattle.rules.specs.Card.{accountCount, accounts, firstCharge, chargeCount, IsCharge, chargeAccounts}
-use Rattle.rules.specs.Table.{actionWidth, width, tableLength, word, withFields, readFields, readField, readEntry, writeField, writeEntry, pendingField, pendingWord, ownAddsField, ownAddsWord, withoutAdds, withBothSets, withSets, mostActions}
+use Rattle.rules.specs.Table.{entryFields, width, tableLength, word, withFields, readFields, readField, readEntry, subTimeFields, subTimeField, subTime, writeFields, writeField, writeEntry, pendingField, pendingWord, ownAddsField, ownAddsWord, withoutAdds, withReads, withBothSets, withSets, mostActions}
 use Rattle.rules.proofs.Laws.Ranges.{Within}
 use Rattle.rules.proofs.Laws.Fields.{withFields-length, withFields-other-row, withFields-other-field, withFields-same}
 
@@ -19,93 +19,148 @@ account-within h = omega arith
 pub charge-within : {k : ℕ} → IsCharge k → Within firstCharge chargeCount k
 charge-within h = omega arith
 
--- ---- both sets
+-- ---- the read set
 
-module _ (w : List ℕ) (n : ℕ) (reads writes : ℕ → ℕ) where
-  pub withBothSets-length : length (withBothSets w n reads writes) ≡ length w
-  unfolding withBothSets accounts
-  withBothSets-length = withFields-length _ n writeField 0 accountCount _ ∙ withFields-length w n readField 0 accountCount _
+module _ (w : List ℕ) (n : ℕ) (reads times : ℕ → ℕ) where
+  pub withReads-length : length (withReads w n reads times) ≡ length w
+  unfolding withReads accounts
+  withReads-length = withFields-length _ n subTimeField 0 accountCount _ ∙ withFields-length w n readField 0 accountCount _
 
   -- the rows of others
-  pub withBothSets-other-row : (m g : ℕ) → g < width → m ≢ n → word (withBothSets w n reads writes) m g ≡ word w m g
+  pub withReads-other-row : (m g : ℕ) → g < width → m ≢ n → word (withReads w n reads times) m g ≡ word w m g
+  unfolding withReads accounts
+  withReads-other-row m g hg ne =
+      withFields-other-row _ n subTimeField 0 accountCount _ m g (λ k h. omega arith) hg ne
+      ∙ withFields-other-row w n readField 0 accountCount _ m g (λ k h. omega arith) hg ne
+
+  -- a field of no read
+  pub withReads-other-field :
+      (g : ℕ) → g < subTimeFields → (g < readFields) ⊎ (writeFields ≤ g) → word (withReads w n reads times) n g ≡ word w n g
+  unfolding withReads accounts
+  withReads-other-field g front apart =
+      withFields-other-field _ n subTimeField 0 accountCount _ g (λ k h z. omega arith)
+      ∙ withFields-other-field w n readField 0 accountCount _ g
+      (λ k h z. ⊎-elim (λ before. omega arith) (λ behind. omega arith) apart)
+
+  module _ (long : length w ≡ tableLength) (few : n ≤ mostActions) where
+    with-entries : length (withFields w n readField (upFrom 0 accountCount) reads) ≡ tableLength
+    with-entries = withFields-length w n readField 0 accountCount reads ∙ long
+
+    pub withReads-read : (k : ℕ) → k < accountCount → readEntry (withReads w n reads times) n k ≡ reads k
+    unfolding withReads accounts
+    withReads-read k hk =
+        withFields-other-field _ n subTimeField 0 accountCount _ (readField k) (λ x h z. omega arith)
+        ∙ withFields-same w n readField 0 accountCount _ long few k (account-within hk) (omega arith) (λ x h ne z. ne (omega arith))
+
+    pub withReads-time : (k : ℕ) → k < accountCount → subTime (withReads w n reads times) n k ≡ times k
+    unfolding withReads accounts
+    withReads-time k hk =
+        withFields-same _ n subTimeField 0 accountCount _ with-entries few k
+        (account-within hk) (omega arith) (λ x h ne z. ne (omega arith))
+
+-- ---- both sets
+
+-- a field of neither
+abbrev pub IsNoSet : ℕ → Type 0
+IsNoSet g = (g < subTimeFields) × ((g < readFields) ⊎ (writeField accountCount ≤ g))
+
+module _ (w : List ℕ) (n : ℕ) (reads times writes : ℕ → ℕ) where
+  abbrev both : List ℕ
+  both = withBothSets w n reads times writes
+
+  pub withBothSets-length : length (withBothSets w n reads times writes) ≡ length w
+  unfolding withBothSets accounts
+  withBothSets-length = withFields-length _ n writeField 0 accountCount _ ∙ withReads-length w n reads times
+
+  -- the rows of others
+  pub withBothSets-other-row : (m g : ℕ) → g < width → m ≢ n → word (withBothSets w n reads times writes) m g ≡ word w m g
   unfolding withBothSets accounts
   withBothSets-other-row m g hg ne =
       withFields-other-row _ n writeField 0 accountCount _ m g (λ k h. omega arith) hg ne
-      ∙ withFields-other-row w n readField 0 accountCount _ m g (λ k h. omega arith) hg ne
+      ∙ withReads-other-row w n reads times m g hg ne
 
-  -- parent, state and end time, and what stands behind the sets
-  pub withBothSets-other-field :
-      (g : ℕ) → (g < readFields) ⊎ (writeField accountCount ≤ g) → word (withBothSets w n reads writes) n g ≡ word w n g
+  -- parent, state and end time, and what stands between the sets and the subaction times
+  pub withBothSets-other-field : (g : ℕ) → IsNoSet g → word both n g ≡ word w n g
   unfolding withBothSets accounts
-  withBothSets-other-field g (inl before) =
-      withFields-other-field _ n writeField 0 accountCount _ g (λ k h z. omega arith)
-      ∙ withFields-other-field w n readField 0 accountCount _ g (λ k h z. omega arith)
-  withBothSets-other-field g (inr behind) =
-      withFields-other-field _ n writeField 0 accountCount _ g (λ k h z. omega arith)
-      ∙ withFields-other-field w n readField 0 accountCount _ g (λ k h z. omega arith)
+  withBothSets-other-field g (front, apart) =
+      withFields-other-field _ n writeField 0 accountCount _ g
+      (λ k h z. ⊎-elim (λ before. omega arith) (λ behind. omega arith) apart)
+      ∙ withReads-other-field w n reads times g front (⊎-map (λ before. before) (λ behind. omega arith) apart)
 
   module _ (long : length w ≡ tableLength) (few : n ≤ mostActions) where
-    with-reads : length (withFields w n readField (upFrom 0 accountCount) reads) ≡ tableLength
-    with-reads = withFields-length w n readField 0 accountCount reads ∙ long
-
-    pub withBothSets-read : (k : ℕ) → k < accountCount → readEntry (withBothSets w n reads writes) n k ≡ reads k
+    pub withBothSets-read : (k : ℕ) → k < accountCount → readEntry both n k ≡ reads k
     unfolding withBothSets accounts
     withBothSets-read k hk =
         withFields-other-field _ n writeField 0 accountCount _ (readField k) (λ x h z. omega arith)
-        ∙ withFields-same w n readField 0 accountCount _ long few k (account-within hk) (omega arith) (λ x h ne z. ne (omega arith))
+        ∙ withReads-read w n reads times long few k hk
 
-    pub withBothSets-write : (k : ℕ) → k < accountCount → writeEntry (withBothSets w n reads writes) n k ≡ writes k
+    pub withBothSets-time : (k : ℕ) → k < accountCount → subTime both n k ≡ times k
+    unfolding withBothSets accounts
+    withBothSets-time k hk =
+        withFields-other-field _ n writeField 0 accountCount _ (subTimeField k) (λ x h z. omega arith)
+        ∙ withReads-time w n reads times long few k hk
+
+    pub withBothSets-write : (k : ℕ) → k < accountCount → writeEntry both n k ≡ writes k
     unfolding withBothSets accounts
     withBothSets-write k hk =
-        withFields-same _ n writeField 0 accountCount _ with-reads few k
+        withFields-same _ n writeField 0 accountCount _ (withReads-length w n reads times ∙ long) few k
         (account-within hk) (omega arith) (λ x h ne z. ne (omega arith))
 
 -- ---- both sets and the pending sums
 
-module _ (w : List ℕ) (n : ℕ) (reads writes sums : ℕ → ℕ) where
-  pub withSets-length : length (withSets w n reads writes sums) ≡ length w
+module _ (w : List ℕ) (n : ℕ) (reads times writes sums : ℕ → ℕ) where
+  abbrev whole : List ℕ
+  whole = withSets w n reads times writes sums
+
+  pub withSets-length : length (withSets w n reads times writes sums) ≡ length w
   unfolding withSets chargeAccounts
-  withSets-length = withFields-length _ n pendingField firstCharge chargeCount _ ∙ withBothSets-length w n reads writes
+  withSets-length = withFields-length _ n pendingField firstCharge chargeCount _ ∙ withBothSets-length w n reads times writes
 
   -- the rows of others
-  pub withSets-other-row : (m g : ℕ) → g < width → m ≢ n → word (withSets w n reads writes sums) m g ≡ word w m g
+  pub withSets-other-row : (m g : ℕ) → g < width → m ≢ n → word whole m g ≡ word w m g
   unfolding withSets chargeAccounts
   withSets-other-row m g hg ne =
       withFields-other-row _ n pendingField firstCharge chargeCount _ m g (λ k h. omega arith) hg ne
-      ∙ withBothSets-other-row w n reads writes m g hg ne
+      ∙ withBothSets-other-row w n reads times writes m g hg ne
 
   -- parent, state and end time
-  pub withSets-other-field : (g : ℕ) → g < readFields → word (withSets w n reads writes sums) n g ≡ word w n g
+  pub withSets-other-field : (g : ℕ) → g < readFields → word whole n g ≡ word w n g
   unfolding withSets chargeAccounts
   withSets-other-field g hg =
       withFields-other-field _ n pendingField firstCharge chargeCount _ g (λ k h z. omega arith)
-      ∙ withBothSets-other-field w n reads writes g (inl hg)
+      ∙ withBothSets-other-field w n reads times writes g (omega arith, inl hg)
 
-  -- what stands behind them: own adds, and the queue's words
-  pub withSets-behind : (g : ℕ) → ownAddsField firstCharge ≤ g → word (withSets w n reads writes sums) n g ≡ word w n g
+  -- what stands behind them and before the subaction times: own adds, and the queues' words
+  pub withSets-behind : (g : ℕ) → ownAddsField firstCharge ≤ g → g < subTimeFields → word whole n g ≡ word w n g
   unfolding withSets chargeAccounts
-  withSets-behind g far =
+  withSets-behind g far near =
       withFields-other-field _ n pendingField firstCharge chargeCount _ g (λ j h z. omega arith)
-      ∙ withBothSets-other-field w n reads writes g (inr (omega arith))
+      ∙ withBothSets-other-field w n reads times writes g (near, inr (omega arith))
 
   module _ (long : length w ≡ tableLength) (few : n ≤ mostActions) where
-    pub withSets-read : (k : ℕ) → k < accountCount → readEntry (withSets w n reads writes sums) n k ≡ reads k
+    pub withSets-read : (k : ℕ) → k < accountCount → readEntry whole n k ≡ reads k
     unfolding withSets chargeAccounts
     withSets-read k hk =
         withFields-other-field _ n pendingField firstCharge chargeCount _ (readField k) (λ x h z. omega arith)
-        ∙ withBothSets-read w n reads writes long few k hk
+        ∙ withBothSets-read w n reads times writes long few k hk
 
-    pub withSets-write : (k : ℕ) → k < accountCount → writeEntry (withSets w n reads writes sums) n k ≡ writes k
+    pub withSets-time : (k : ℕ) → k < accountCount → subTime whole n k ≡ times k
+    unfolding withSets chargeAccounts
+    withSets-time k hk =
+        withFields-other-field _ n pendingField firstCharge chargeCount _ (subTimeField k) (λ x h z. omega arith)
+        ∙ withBothSets-time w n reads times writes long few k hk
+
+    pub withSets-write : (k : ℕ) → k < accountCount → writeEntry whole n k ≡ writes k
     unfolding withSets chargeAccounts
     withSets-write k hk =
         withFields-other-field _ n pendingField firstCharge chargeCount _ (writeField k) (λ x h z. omega arith)
-        ∙ withBothSets-write w n reads writes long few k hk
+        ∙ withBothSets-write w n reads times writes long few k hk
 
-    pub withSets-pending : (k : ℕ) → IsCharge k → pendingWord (withSets w n reads writes sums) n k ≡ sums k
+    pub withSets-pending : (k : ℕ) → IsCharge k → pendingWord whole n k ≡ sums k
     unfolding withSets chargeAccounts
     withSets-pending k charge =
         withFields-same _ n pendingField firstCharge chargeCount _
-        (withBothSets-length w n reads writes ∙ long) few k
+        (withBothSets-length w n reads times writes ∙ long) few k
         (charge-within charge) (omega arith) (λ x h ne z. ne (omega arith))
 
 -- ---- own adds cleared
@@ -126,8 +181,8 @@ module _ (w : List ℕ) (n : ℕ) where
   unfolding withoutAdds chargeAccounts
   withoutAdds-other-field g hg = withFields-other-field w n ownAddsField firstCharge chargeCount _ g (λ k h z. omega arith)
 
-  -- what stands behind them: the queue's words
-  pub withoutAdds-behind : (g : ℕ) → actionWidth ≤ g → word (withoutAdds w n) n g ≡ word w n g
+  -- what stands behind them: the queues' words and the subaction times
+  pub withoutAdds-behind : (g : ℕ) → entryFields ≤ g → word (withoutAdds w n) n g ≡ word w n g
   unfolding withoutAdds chargeAccounts
   withoutAdds-behind g far = withFields-other-field w n ownAddsField firstCharge chargeCount _ g (λ k h z. omega arith)
 

@@ -12,19 +12,19 @@ use lib.Dec.{eqb}
 use lib.ListN.{length}
 use Rattle.rules.specs.declared.Answer.the-variants.{Aborted}
 use Rattle.rules.specs.Range.{count}
-use Rattle.rules.specs.Card.{accountCount}
-use Rattle.rules.specs.Table.{hasEnd, width, live, committed, aborted, word, startedField, started, counterField, counter, parentField, parentOf, stateField, stateOf, endField, readField, readEntry, hasRead, readTime, writeField, pendingField, isLive, isCommitted, actions}
+use Rattle.rules.specs.Kind.{IsKind}
+use Rattle.rules.specs.Table.{hasEnd, width, live, committed, aborted, word, startedField, started, counterField, counter, parentField, parentOf, stateField, stateOf, endField, readField, readEntry, subTimeField, subTime, writeField, pendingField, isLive, isCommitted, actions}
 use Rattle.rules.specs.Walk.{isAtOrBelow, isAbortedBy}
-use Rattle.rules.specs.Queue.{theQueue, queueLengthField, isQueued, withoutBelow}
-use Rattle.rules.specs.Sound.{hasState, IsStarted, Sound}
+use Rattle.rules.specs.Queue.{queueLengthField, isQueued}
+use Rattle.rules.specs.Sound.{isCommittedOf, hasState, IsStarted, Sound}
 use Rattle.rules.specs.Ledger.{Ledger}
-use Rattle.rules.specs.Step.{abortTable, dropped, abortLeft, abort}
+use Rattle.rules.specs.Step.{abortTable, outOfBoth, dropped, abortLeft, abort}
 use Rattle.rules.proofs.Laws.Tests.{and-left, and-right, and-both, cond-holds}
 use Rattle.rules.proofs.Laws.Ranges.{count-some, any-at, count-agree}
 use Rattle.rules.proofs.Laws.RowPass.{pass-length, pass-other-field, pass-other-row, pass-field}
 use Rattle.rules.proofs.Laws.Queue.{SameLine}
-use Rattle.rules.proofs.Sound.TableChanges.{TableChange, change-keeps-sound, sum-stays, line-stays, writes-agree}
-use Rattle.rules.proofs.Sound.QueueChanges.{without-keeps, without-change, same-reach}
+use Rattle.rules.proofs.Sound.TableChanges.{ReadsInTime, TableChange, sum-stays, line-stays, writes-agree}
+use Rattle.rules.proofs.Sound.TakingOut.{out-sound, out-keeps, out-reach}
 use Rattle.rules.proofs.Laws.Walking.{parent-known, sound-climbs, atOrBelow-itself, notBelow-parent}
 
 -- ---- the table after an abort of n
@@ -68,8 +68,8 @@ module _ (w : List ℕ) (n : ℕ) where
     started-kept : started (abortTable w n) ≡ started w
     started-kept = abort-keeps-field 0 startedField (omega arith) (λ z. omega arith)
 
-    counter-kept : counter (abortTable w n) ≡ counter w
-    counter-kept = abort-keeps-row 0 counterField (omega arith) (λ h _. omega arith)
+    counter-kept : (h : ℕ) → IsKind h → counter (abortTable w n) h ≡ counter w h
+    counter-kept h known = abort-keeps-row 0 (counterField h) (omega arith) (λ begun _. omega arith)
 
     state-valid : (m : ℕ) → IsStarted w m → hasState (abortTable w n) m ≡ true
     state-valid m h =
@@ -96,44 +96,50 @@ module _ (w : List ℕ) (n : ℕ) where
         (λ q. rw (eqb-true (stateOf w m) live (and-left (isLive w m) _ q)))
         (λ q. refl))
 
-    count-kept : count (isCommitted (abortTable w n)) (actions (abortTable w n)) ≡ count (isCommitted w) (actions w)
+    count-kept :
+        (h : ℕ) → count (isCommittedOf (abortTable w n) h) (actions (abortTable w n)) ≡ count (isCommittedOf w h) (actions w)
     unfolding actions
-    count-kept = rw started-kept (count-agree _ _ 1 (started w) (λ m r. abort-keeps-committed m (omega arith)))
+    count-kept h =
+        rw started-kept
+        (count-agree _ _ 1 (started w)
+        (λ m r.
+        rw (abort-keeps-committed m (omega arith), abort-keeps-field m parentField (omega arith) (λ z. omega arith)) refl))
 
     end-kept : (m : ℕ) → IsStarted w m → hasEnd (abortTable w n) m ≡ hasEnd w m
     end-kept m h =
         ap₂ _&&_ (abort-keeps-committed m h)
         (writes-agree w _ m (λ k hk. abort-keeps-field m (writeField k) (omega arith) (λ z. omega arith)))
 
-    reads-kept :
-        (m k : ℕ) → IsStarted w m → isLive (abortTable w n) m ≡ true → k < accountCount → hasRead (abortTable w n) m k ≡ true →
-        readTime (abortTable w n) m k ≤ counter (abortTable w n)
-    reads-kept m k h l hk r =
+    reads-kept : ReadsInTime w (abortTable w n)
+    reads-kept h m k known begun l hk r =
         let entry : readEntry (abortTable w n) m k ≡ readEntry w m k = abort-keeps-field m (readField k) (omega arith) (λ z. omega arith) in
-        rw (entry, counter-kept) (s .reads m k h (was-live m h l) hk (rw entry at r))
+        let time : subTime (abortTable w n) m k ≡ subTime w m k = abort-keeps-field m (subTimeField k) (omega arith) (λ z. omega arith) in
+        rw (entry, time, counter-kept h known) (s .reads h m k known begun (was-live m begun l) hk (rw entry at r))
 
-    pub abort-line : SameLine w (abortTable w n) theQueue
-    abort-line =
+    pub abort-line : (h : ℕ) → IsKind h → SameLine w (abortTable w n) h
+    abort-line h known =
         record {
-          sameLength = abort-keeps-field 0 (queueLengthField theQueue) (omega arith) (λ z. omega arith);
-          sameEntries = λ i g _ behind inside. abort-keeps-field i g inside (λ z. omega arith);
+          sameLength = abort-keeps-field 0 (queueLengthField h) (omega arith) (λ z. omega arith);
+          sameEntries = λ i g _ first last. abort-keeps-field i g (omega arith) (λ z. omega arith);
         }
 
-    -- whoever waits and isn't reached stays live
-    waiting-left :
-        ((m : ℕ) → isQueued w theQueue m ≡ true → isAbortedBy w n m ≡ false) → (m : ℕ) → isQueued w theQueue m ≡ true →
-        isLive (abortTable w n) m ≡ true
-    waiting-left spared m queued =
-        let may = s .line .waits m queued in
-        rw (abort-state m (may .begun), spared m queued) (may .alive)
+    -- nobody who waits is reached
+    abbrev pub Spared : Type 0
+    Spared = (h : ℕ) → IsKind h → (m : ℕ) → isQueued w h m ≡ true → isAbortedBy w n m ≡ false
 
-    pub abort-change : ((m : ℕ) → isQueued w theQueue m ≡ true → isAbortedBy w n m ≡ false) → TableChange w (abortTable w n) n
+    -- whoever waits and isn't reached stays live
+    waiting-left : Spared → (h : ℕ) → IsKind h → (m : ℕ) → isQueued w h m ≡ true → isLive (abortTable w n) m ≡ true
+    waiting-left spared h known m queued =
+        let may = s .lines h known .waits m queued in
+        rw (abort-state m (may .begun), spared h known m queued) (may .alive)
+
+    pub abort-change : Spared → TableChange w (abortTable w n) n
     abort-change spared =
         record {
           long = abort-length ∙ s .long;
           sameStarted = started-kept;
-          rising = le-of-eq (sym counter-kept);
-          counted = rw (counter-kept, count-kept) (s .counted);
+          rising = λ h known. le-of-eq (sym (counter-kept h known));
+          counted = λ h known. rw (counter-kept h known, count-kept h) (s .counted h known);
           states = state-valid;
           parents = λ m h. abort-keeps-field m parentField (omega arith) (λ z. omega arith);
           wasLive = was-live;
@@ -144,9 +150,10 @@ module _ (w : List ℕ) (n : ℕ) where
               λ m k h charge.
               sum-stays w (abortTable w n) m k (abort-keeps-field m (writeField k) (omega arith) (λ z. omega arith))
               (abort-keeps-field m (pendingField k) (omega arith) (λ z. omega arith));
-          line =
-              line-stays w (abortTable w n) s abort-line started-kept
-              (λ m h. abort-keeps-field m parentField (omega arith) (λ z. omega arith)) was-live (waiting-left spared);
+          lines =
+              λ h known.
+              line-stays w (abortTable w n) s h known (abort-line h known) started-kept
+              (λ m _. abort-keeps-field m parentField (omega arith) (λ z. omega arith)) was-live (waiting-left spared h known);
         }
 
     -- ---- RULES 2.6: the count of the answer
@@ -166,19 +173,18 @@ module _ (w : List ℕ) (n : ℕ) where
         reached true false e = rw (eqb-true (stateOf w m) live e)
         reached false b e = refl
 
--- the answer's first number is that of the actions which were live and are aborted before the head is tried
+-- the answer's first number is that of the actions which were live and are aborted before a head is tried
 module _ (s : Ledger) (n : ℕ) (sound : Sound (s .table)) where
-  -- those who wait and are reached have been taken out, by a change of the queue alone
-  abbrev out : List ℕ
-  out = withoutBelow (s .table) theQueue n
-
-  dropped-aborted : (m : ℕ) → IsStarted (s .table) m → isAbortedBy (s .table) n m ≡ becameAborted (s .table) (abortTable out n) m
+  -- those who wait and are reached have been taken out, by a change of the queues alone
+  dropped-aborted :
+      (m : ℕ) → IsStarted (s .table) m →
+      isAbortedBy (s .table) n m ≡ becameAborted (s .table) (abortTable (outOfBoth (s .table) n) n) m
   dropped-aborted m h =
-      let kept = without-keeps sound n in
-      sym (same-reach sound n m)
-      ∙ reached-became-aborted out n (change-keeps-sound _ _ n sound (without-change sound n n)) m
-      (rw (kept 0 startedField (omega arith) (inr (λ z. omega arith))) h)
-      ∙ rw (kept m stateField (omega arith) (inr (λ z. omega arith)))
+      let kept = out-keeps sound n in
+      sym (out-reach sound n m)
+      ∙ reached-became-aborted (outOfBoth (s .table) n) n (out-sound sound n) m
+      (rw (kept 0 startedField (inl (omega arith)) (inr (inl (omega arith)))) h)
+      ∙ rw (kept m stateField (inl (omega arith)) (inr (inl (omega arith))))
 
   pub abort-counts :
       abort s n .answer

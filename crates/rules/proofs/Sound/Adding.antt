@@ -11,7 +11,7 @@ use lib.IntN.{ℤ, _+ℤ_}
 use lib.ListN.{length}
 use Rattle.rules.specs.Card.{firstCharge, IsCharge}
 use Rattle.rules.specs.Amount.{amountWord}
-use Rattle.rules.specs.Table.{actionWidth, width, word, writeField, writeEntry, withWrite, entered, pendingField, pendingWord, withPending, pendingSum, ownAddsField, ownAddsWord, ownAdds, isLive}
+use Rattle.rules.specs.Table.{entryFields, width, word, writeField, writeEntry, withWrite, entered, pendingField, pendingWord, withPending, pendingSum, ownAddsField, ownAddsWord, ownAdds, isLive}
 use Rattle.rules.specs.Sound.{IsStarted, Sound}
 use Rattle.rules.specs.Step.{addTable}
 use Rattle.rules.proofs.Laws.Words.{withWord-length, word-same, word-other-field, word-off-field, word-other-row}
@@ -46,8 +46,8 @@ module _
       ∙ word-off-field marked n m (pendingField k) g _ (omega arith) (omega arith) off-sum
       ∙ word-off-field w n m (writeField k) g entered (omega arith) (omega arith) off-entry
 
-  -- every word behind those of the actions
-  pub add-keeps-behind : (m g : ℕ) → actionWidth ≤ g → g < width → word (addTable w n k x) m g ≡ word w m g
+  -- every word behind them: the queues' entries and the subaction times
+  pub add-keeps-behind : (m g : ℕ) → entryFields ≤ g → g < width → word (addTable w n k x) m g ≡ word w m g
   unfolding addTable
   add-keeps-behind m g h inside =
       word-off-field summed n m (ownAddsField k) g _ (omega arith) inside (λ z. omega arith)

@@ -1,24 +1,27 @@
 -- A commit's table, field by field. Assumes nothing.
-use Prim.Native.Nat.{ℕ, _≤_, _<_}
+use Prim.Native.Nat.{ℕ, _-_, _≤_, _<_, min}
 use native.Mathlib.Omega.{arith}
 use native.Mathlib.Decide.{ℕ-discrete}
 use mathlib.Core.Path.{_≡_, refl, sym, ap, _∙_}
 use mathlib.Core.Logic.{_⊎_, inl, inr, _≢_}
-use mathlib.Core.Bool.{false, cond}
+use mathlib.Core.Bool.{Bool, true, false, cond}
 use mathlib.Core.List.{List}
 use borrow.Author.Tests.{eq-eqb, ne-eqb, le-leb}
+use lib.Dec.{eqb}
 use lib.ListN.{length}
 use Rattle.rules.specs.Card.{accountCount, firstCharge, IsCharge}
-use Rattle.rules.specs.Table.{width, tableLength, mostActions, committed, word, startedField, started, counterField, counter, parentField, parentOf, stateField, stateOf, withState, endField, endTime, withEndTime, readFields, readField, readEntry, writeField, writeEntry, entered, hasWritten, hasWrites, pendingField, pendingWord, ownAddsField, ownAddsWord}
-use Rattle.rules.specs.Queue.{theQueue, queueLengthField}
+use Rattle.rules.specs.Kind.{IsKind, topKind, kindUnder}
+use Rattle.rules.specs.Table.{width, tableLength, mostActions, committed, word, startedField, started, counterField, counter, parentField, parentOf, kindOf, stateField, stateOf, withState, endField, endTime, withEndTime, readFields, readField, readEntry, hasRead, subTimeFields, subTimeField, subTime, readTime, writeField, writeEntry, entered, hasWritten, hasWrites, pendingField, pendingWord, ownAddsField, ownAddsWord}
+use Rattle.rules.specs.Queue.{queueLengthField}
 use Rattle.rules.specs.Ledger.{Ledger}
-use Rattle.rules.specs.Commit.{copiedDown, commitTime, commitCounter, endTable, joinedRead, joinTable, committedUnder}
+use Rattle.rules.specs.Commit.{copiedDown, commitTime, commitCounter, endTable, passesRead, joinedWord, joinedRead, joinedTime, joinTable, committedUnder}
 use Rattle.rules.proofs.Laws.Words.{withWord-length, word-same, word-other-row, word-other-field, word-off-field}
 use Rattle.rules.proofs.Laws.Queue.{SameLine}
-use Rattle.rules.proofs.Laws.Sets.{withBothSets-length, withBothSets-other-row, withBothSets-other-field, withBothSets-read, withBothSets-write}
+use Rattle.rules.proofs.Laws.Kinds.{kind-known}
+use Rattle.rules.proofs.Laws.Sets.{IsNoSet, withBothSets-length, withBothSets-other-row, withBothSets-other-field, withBothSets-read, withBothSets-time, withBothSets-write}
 use Rattle.rules.proofs.Copies.Turns.{IsNoSum, addedWord}
 use Rattle.rules.proofs.Copies.Between.{TableAt, table-between}
-use Rattle.rules.proofs.Copies.Whole.{copied-sum, copied-writes, copied-counter, copied-time}
+use Rattle.rules.proofs.Copies.Whole.{copied-sum, copied-writes, copied-parent, copied-counter, copied-time}
 
 -- ---- the end, in any table
 
@@ -30,19 +33,23 @@ module _ (w : List ℕ) (n : ℕ) where
   abbrev timed : List ℕ
   timed = withEndTime stated n (commitTime w n)
 
-  end-length : length (endTable w n) ≡ length w
-  end-length = withWord-length timed 0 counterField _ ∙ withWord-length stated n endField _ ∙ withWord-length w n stateField _
+  abbrev kind : ℕ
+  kind = kindOf w n
 
-  -- fields that are neither a state nor an end time, and the rows of others; the counter's field has a state's number
+  end-length : length (endTable w n) ≡ length w
+  end-length = withWord-length timed 0 (counterField kind) _ ∙ withWord-length stated n endField _ ∙ withWord-length w n stateField _
+
+  -- fields that are neither a state nor an end time, and the rows of others; the counters' fields have these two's numbers
   end-keeps-field : (m g : ℕ) → g < width → g ≢ stateField → g ≢ endField → word (endTable w n) m g ≡ word w m g
   end-keeps-field m g h ns nt =
-      word-off-field timed 0 m counterField g _ (omega arith) h ns
+      word-off-field timed 0 m (counterField kind) g _ (omega (arith, kind-known (parentOf w n))) h
+      (λ z. omega (arith, kind-known (parentOf w n)))
       ∙ word-off-field stated n m endField g _ (omega arith) h nt
       ∙ word-off-field w n m stateField g _ (omega arith) h ns
 
   end-keeps-row : (m g : ℕ) → g < width → 1 ≤ m → m ≢ n → word (endTable w n) m g ≡ word w m g
   end-keeps-row m g h pos ne =
-      word-other-row timed 0 m counterField g _ (omega arith) h (λ z. omega arith)
+      word-other-row timed 0 m (counterField kind) g _ (omega (arith, kind-known (parentOf w n))) h (λ z. omega arith)
       ∙ word-other-row stated n m endField g _ (omega arith) h ne
       ∙ word-other-row w n m stateField g _ (omega arith) h ne
 
@@ -50,19 +57,51 @@ module _ (w : List ℕ) (n : ℕ) where
     stated-long : length stated ≡ tableLength
     stated-long = withWord-length w n stateField _ ∙ long
 
-    end-counter : counter (endTable w n) ≡ commitCounter w n
-    end-counter = word-same timed 0 counterField _ (withWord-length stated n endField _ ∙ stated-long) (omega arith) (omega arith)
+    end-counter : counter (endTable w n) kind ≡ commitCounter w n
+    end-counter =
+        word-same timed 0 (counterField kind) _ (withWord-length stated n endField _ ∙ stated-long) (omega arith)
+        (omega (arith, kind-known (parentOf w n)))
+
+    -- the other kind's
+    end-other-counter : (h : ℕ) → IsKind h → h ≢ kind → counter (endTable w n) h ≡ counter w h
+    end-other-counter h known apart =
+        word-other-field timed 0 (counterField kind) (counterField h) _ (λ z. apart (omega arith))
+        ∙ word-other-row stated n 0 endField (counterField h) _ (omega arith) (omega arith) (λ z. omega arith)
+        ∙ word-other-row w n 0 stateField (counterField h) _ (omega arith) (omega arith) (λ z. omega arith)
 
     end-state : stateOf (endTable w n) n ≡ committed
     end-state =
-        word-other-row timed 0 n counterField stateField _ (omega arith) (omega arith) (λ z. omega arith)
+        word-other-row timed 0 n (counterField kind) stateField _ (omega (arith, kind-known (parentOf w n))) (omega arith)
+        (λ z. omega arith)
         ∙ word-other-field stated n endField stateField _ (λ z. omega arith)
         ∙ word-same w n stateField committed long few (omega arith)
 
     end-time : endTime (endTable w n) n ≡ commitTime w n
     end-time =
-        word-other-row timed 0 n counterField endField _ (omega arith) (omega arith) (λ z. omega arith)
+        word-other-row timed 0 n (counterField kind) endField _ (omega (arith, kind-known (parentOf w n))) (omega arith)
+        (λ z. omega arith)
         ∙ word-same stated n endField _ stated-long few (omega arith)
+
+-- ---- the joined words
+
+module _ (w : List ℕ) (n p k : ℕ) where
+  -- an entry is one more than its time, so the times join as the entries do
+  joined-times : (a b : ℕ) → joinedWord w n p k a b - 1 ≡ joinedWord w n p k (a - 1) (b - 1)
+  joined-times a b = go (passesRead w n p k) (hasRead w p k)
+    where
+      go :
+          (passes both : Bool) →
+          cond passes (cond both (min a b) a) b - 1 ≡ cond passes (cond both (min (a - 1) (b - 1)) (a - 1)) (b - 1)
+      go true true = omega arith
+      go true false = refl
+      go false both = refl
+
+  joined-by-kind :
+      (top : Bool) →
+      cond top (joinedRead w n p k - 1) (joinedTime w n p k)
+      ≡ joinedWord w n p k (cond top (readEntry w n k - 1) (subTime w n k)) (cond top (readEntry w p k - 1) (subTime w p k))
+  joined-by-kind true = joined-times (readEntry w n k) (readEntry w p k)
+  joined-by-kind false = refl
 
 -- ---- the whole commit
 
@@ -83,18 +122,15 @@ module _ (s : Ledger) (n p : ℕ) (one : 1 ≤ n) where
   ended-field m g h ns nt (inl ne) = end-keeps-field copied n m g h ns nt ∙ by-copies .sameRow m g h ne
   ended-field m g h ns nt (inr off) = end-keeps-field copied n m g h ns nt ∙ by-copies .sameField m g h off
 
-  -- the sets that a parent gets change its read and write entries alone
-  joined-elsewhere :
-      (m g : ℕ) → g < width → (m ≢ p) ⊎ ((g < readFields) ⊎ (writeField accountCount ≤ g)) →
-      word (committedUnder s n p .table) m g ≡ word ended m g
+  -- the sets that a parent gets change its reads and write entries alone
+  joined-elsewhere : (m g : ℕ) → g < width → (m ≢ p) ⊎ IsNoSet g → word (committedUnder s n p .table) m g ≡ word ended m g
   unfolding committedUnder joinTable
   joined-elsewhere m g h where′ = go (ℕ-discrete p 0)
     where
-      apart : (m ≢ p) ⊎ ((g < readFields) ⊎ (writeField accountCount ≤ g)) → Dec (m ≡ p) →
-          word (joinTable ended n p) m g ≡ word ended m g
-      apart (inl ne) d = withBothSets-other-row ended p _ _ m g h ne
-      apart (inr off) (yes e) = rw e (withBothSets-other-field ended p _ _ g off)
-      apart (inr off) (no ne) = withBothSets-other-row ended p _ _ m g h ne
+      apart : (m ≢ p) ⊎ IsNoSet g → Dec (m ≡ p) → word (joinTable ended n p) m g ≡ word ended m g
+      apart (inl ne) d = withBothSets-other-row ended p _ _ _ m g h ne
+      apart (inr off) (yes e) = rw e (withBothSets-other-field ended p _ _ _ g off)
+      apart (inr off) (no ne) = withBothSets-other-row ended p _ _ _ m g h ne
 
       go : Dec (p ≡ 0) → word (committedUnder s n p .table) m g ≡ word ended m g
       go (yes e) = rw (eq-eqb p 0 e) refl
@@ -109,16 +145,16 @@ module _ (s : Ledger) (n p : ℕ) (one : 1 ≤ n) where
 
       go : Dec (p ≡ 0) → length (committedUnder s n p .table) ≡ length (s .table)
       go (yes e) = rw (eq-eqb p 0 e) ended-length
-      go (no ne) = rw (ne-eqb p 0 ne) (withBothSets-length ended p _ _ ∙ ended-length)
+      go (no ne) = rw (ne-eqb p 0 ne) (withBothSets-length ended p _ _ _ ∙ ended-length)
 
   pub commit-started : started (committedUnder s n p .table) ≡ started (s .table)
   commit-started =
-      joined-elsewhere 0 startedField (omega arith) (inr (inl (omega arith)))
+      joined-elsewhere 0 startedField (omega arith) (inr (omega arith, inl (omega arith)))
       ∙ ended-field 0 startedField (omega arith) (λ z. omega arith) (λ z. omega arith) (inr (inl (omega arith)))
 
   pub commit-parent : (m : ℕ) → parentOf (committedUnder s n p .table) m ≡ parentOf (s .table) m
   commit-parent m =
-      joined-elsewhere m parentField (omega arith) (inr (inl (omega arith)))
+      joined-elsewhere m parentField (omega arith) (inr (omega arith, inl (omega arith)))
       ∙ ended-field m parentField (omega arith) (λ z. omega arith) (λ z. omega arith) (inr (inl (omega arith)))
 
   -- an action that is neither the one that commits nor its parent keeps its row; the parent keeps its parent, state and end time
@@ -128,7 +164,7 @@ module _ (s : Ledger) (n p : ℕ) (one : 1 ≤ n) where
   commit-keeps-row m g h pos ne (inl apart) =
       joined-elsewhere m g h (inl apart) ∙ end-keeps-row copied n m g h pos ne ∙ by-copies .sameRow m g h apart
   commit-keeps-row m g h pos ne (inr low) =
-      joined-elsewhere m g h (inr (inl low))
+      joined-elsewhere m g h (inr (omega arith, inl low))
       ∙ end-keeps-row copied n m g h pos ne
       ∙ by-copies .sameField m g h (inl (omega arith))
 
@@ -141,18 +177,18 @@ module _ (s : Ledger) (n p : ℕ) (one : 1 ≤ n) where
   pub commit-keeps-sets : n ≢ p → (g : ℕ) → readFields ≤ g → g < width → word (committedUnder s n p .table) n g ≡ word (s .table) n g
   commit-keeps-sets = commit-keeps-others n
 
-  -- nothing that stands behind the sums changes, not even in the parent's row
+  -- nothing that stands between the sums and the subaction times changes, not even in the parent's row
   commit-behind :
-      (m g : ℕ) → ownAddsField firstCharge ≤ g → g < width → word (committedUnder s n p .table) m g ≡ word (s .table) m g
-  commit-behind m g far h =
-      joined-elsewhere m g h (inr (inr (omega arith)))
-      ∙ ended-field m g h (λ z. omega arith) (λ z. omega arith) (inr (inr (omega arith)))
+      (m g : ℕ) → ownAddsField firstCharge ≤ g → g < subTimeFields → word (committedUnder s n p .table) m g ≡ word (s .table) m g
+  commit-behind m g far near =
+      joined-elsewhere m g (omega arith) (inr (near, inr (omega arith)))
+      ∙ ended-field m g (omega arith) (λ z. omega arith) (λ z. omega arith) (inr (inr (omega arith)))
 
   -- so nobody's own adds do
   pub commit-own-adds : (m k : ℕ) → IsCharge k → ownAddsWord (committedUnder s n p .table) m k ≡ ownAddsWord (s .table) m k
   commit-own-adds m k charge = commit-behind m (ownAddsField k) (omega arith) (omega arith)
 
-  -- .. and the queue stays
+  -- .. and both queues stay
   head-kept : (g : ℕ) → readFields ≤ g → g < width → IsNoSum g → word (committedUnder s n p .table) 0 g ≡ word (s .table) 0 g
   unfolding committedUnder
   head-kept g high h off = go (ℕ-discrete p 0)
@@ -161,38 +197,50 @@ module _ (s : Ledger) (n p : ℕ) (one : 1 ≤ n) where
       go (yes top) = rw (eq-eqb p 0 top) (ended-field 0 g h (λ z. omega arith) (λ z. omega arith) (inr off))
       go (no sub) = commit-keeps-others 0 (λ z. sub (sym z)) g high h
 
-  pub commit-line : SameLine (s .table) (committedUnder s n p .table) theQueue
-  commit-line =
+  pub commit-line : (h : ℕ) → IsKind h → SameLine (s .table) (committedUnder s n p .table) h
+  commit-line h known =
       record {
-        sameLength = head-kept (queueLengthField theQueue) (omega arith) (omega arith) (inl (omega arith));
-        sameEntries = λ i g _ behind inside. commit-behind i g (omega arith) inside;
+        sameLength = head-kept (queueLengthField h) (omega arith) (omega arith) (inl (omega arith));
+        sameEntries = λ i g _ first last. commit-behind i g (omega arith) (omega arith);
       }
 
   -- the end doesn't touch p's sums, nor do the sets that it gets
   pub commit-sum-copied :
       (k : ℕ) → IsCharge k → pendingWord (committedUnder s n p .table) p k ≡ pendingWord copied p k
   commit-sum-copied k charge =
-      joined-elsewhere p (pendingField k) (omega arith) (inr (inr (omega arith)))
+      joined-elsewhere p (pendingField k) (omega arith) (inr (omega arith, inr (omega arith)))
       ∙ end-keeps-field copied n p (pendingField k) (omega arith) (λ z. omega arith) (λ z. omega arith)
 
   module _ (long : length (s .table) ≡ tableLength) (few : n ≤ mostActions) where
     copied-long : length copied ≡ tableLength
     copied-long = by-copies .sameLength ∙ long
 
-    pub commit-counter : counter (committedUnder s n p .table) ≡ commitCounter (s .table) n
+    -- the counter of n's kind, and the other
+    pub commit-counter : counter (committedUnder s n p .table) (kindOf (s .table) n) ≡ commitCounter (s .table) n
     unfolding commitCounter
     commit-counter =
-        joined-elsewhere 0 counterField (omega arith) (inr (inl (omega arith)))
-        ∙ end-counter copied n copied-long one few
-        ∙ rw (copied-writes s n p, copied-counter s n p) refl
+        let own : kindOf copied n ≡ kindOf (s .table) n = ap kindUnder (copied-parent s n p) in
+        let risen : counter ended (kindOf (s .table) n) ≡ commitCounter copied n =
+        ap (counter ended) (sym own) ∙ end-counter copied n copied-long one few in
+        joined-elsewhere 0 (counterField (kindOf (s .table) n)) (omega (arith, kind-known (parentOf (s .table) n)))
+        (inr (omega (arith, kind-known (parentOf (s .table) n)), inl (omega (arith, kind-known (parentOf (s .table) n)))))
+        ∙ risen
+        ∙ rw (copied-writes s n p, own, copied-counter s n p (kindOf (s .table) n) (kind-known (parentOf (s .table) n))) refl
+
+    pub commit-other-counter :
+        (h : ℕ) → IsKind h → h ≢ kindOf (s .table) n → counter (committedUnder s n p .table) h ≡ counter (s .table) h
+    commit-other-counter h known apart =
+        joined-elsewhere 0 (counterField h) (omega arith) (inr (omega arith, inl (omega arith)))
+        ∙ end-other-counter copied n copied-long one few h known (λ z. apart (z ∙ ap kindUnder (copied-parent s n p)))
+        ∙ copied-counter s n p h known
 
     pub commit-state : stateOf (committedUnder s n p .table) n ≡ committed
     commit-state =
-        joined-elsewhere n stateField (omega arith) (inr (inl (omega arith))) ∙ end-state copied n copied-long one few
+        joined-elsewhere n stateField (omega arith) (inr (omega arith, inl (omega arith))) ∙ end-state copied n copied-long one few
 
     pub commit-end : endTime (committedUnder s n p .table) n ≡ commitTime (s .table) n
     commit-end =
-        joined-elsewhere n endField (omega arith) (inr (inl (omega arith)))
+        joined-elsewhere n endField (omega arith) (inr (omega arith, inl (omega arith)))
         ∙ end-time copied n copied-long one few
         ∙ copied-time s n p
 
@@ -205,31 +253,53 @@ module _ (s : Ledger) (n p : ℕ) (one : 1 ≤ n) where
       ended-long : length ended ≡ tableLength
       ended-long = end-length copied n ∙ copied-long
 
-      -- the entries of both for the account are as they were, and so is whatever is made of them
-      entry-kept : (m g : ℕ) → readFields ≤ g → g < writeField accountCount → word ended m g ≡ word (s .table) m g
-      entry-kept m g high h =
-          ended-field m g (omega arith) (λ z. omega arith) (λ z. omega arith) (inr (inl (omega arith)))
+      -- the words of both for the account are as they were, and so is whatever is made of them
+      entry-kept : (m g : ℕ) → readFields ≤ g → g < width → IsNoSum g → word ended m g ≡ word (s .table) m g
+      entry-kept m g high h off = ended-field m g h (λ z. omega arith) (λ z. omega arith) (inr off)
 
-      joined-read-kept :
+      set-kept : (m g : ℕ) → readFields ≤ g → g < writeField accountCount → word ended m g ≡ word (s .table) m g
+      set-kept m g high h = entry-kept m g high (omega arith) (inl (omega arith))
+
+      time-kept : (m k : ℕ) → k < accountCount → subTime ended m k ≡ subTime (s .table) m k
+      time-kept m k hk = entry-kept m (subTimeField k) (omega arith) (omega arith) (inr (omega arith))
+
+      joined-reads-kept :
           (k : ℕ) → k < accountCount →
           (writeEntry ended n k ≡ writeEntry (s .table) n k) × (writeEntry ended p k ≡ writeEntry (s .table) p k)
-          × (joinedRead ended n p k ≡ joinedRead (s .table) n p k)
-      joined-read-kept k hk =
+          × (joinedRead ended n p k ≡ joinedRead (s .table) n p k) × (joinedTime ended n p k ≡ joinedTime (s .table) n p k)
+      joined-reads-kept k hk =
           rw (
-            entry-kept n (readField k) (omega arith) (omega arith),
-            entry-kept p (readField k) (omega arith) (omega arith),
-            entry-kept n (writeField k) (omega arith) (omega arith),
-            entry-kept p (writeField k) (omega arith) (omega arith),
+            set-kept n (readField k) (omega arith) (omega arith),
+            set-kept p (readField k) (omega arith) (omega arith),
+            set-kept n (writeField k) (omega arith) (omega arith),
+            set-kept p (writeField k) (omega arith) (omega arith),
+            time-kept n k hk,
+            time-kept p k hk,
           )
-          (refl, refl, refl)
+          (refl, refl, refl, refl)
 
       pub commit-read :
           (k : ℕ) → k < accountCount → readEntry (committedUnder s n p .table) p k ≡ joinedRead (s .table) n p k
       unfolding joinTable
       commit-read k hk =
           ap (λ t. readEntry t p k) joined
-          ∙ withBothSets-read ended p _ _ ended-long low k hk
-          ∙ joined-read-kept k hk .2
+          ∙ withBothSets-read ended p _ _ _ ended-long low k hk
+          ∙ joined-reads-kept k hk .2
+
+      commit-time : (k : ℕ) → k < accountCount → subTime (committedUnder s n p .table) p k ≡ joinedTime (s .table) n p k
+      unfolding joinTable
+      commit-time k hk =
+          ap (λ t. subTime t p k) joined
+          ∙ withBothSets-time ended p _ _ _ ended-long low k hk
+          ∙ joined-reads-kept k hk .3
+
+      -- RULES 4.5: of either kind the parent's time is joined from the two times of that kind
+      pub commit-read-time :
+          (h k : ℕ) → k < accountCount →
+          readTime (committedUnder s n p .table) h p k
+          ≡ joinedWord (s .table) n p k (readTime (s .table) h n k) (readTime (s .table) h p k)
+      commit-read-time h k hk =
+          rw (commit-read k hk, commit-time k hk) (joined-by-kind (s .table) n p k (eqb h topKind))
 
       pub commit-write :
           (k : ℕ) → k < accountCount →
@@ -237,8 +307,8 @@ module _ (s : Ledger) (n p : ℕ) (one : 1 ≤ n) where
       unfolding joinTable
       commit-write k hk =
           ap (λ t. writeEntry t p k) joined
-          ∙ withBothSets-write ended p _ _ ended-long low k hk
-          ∙ rw (entry-kept n (writeField k) (omega arith) (omega arith), entry-kept p (writeField k) (omega arith) (omega arith)) refl
+          ∙ withBothSets-write ended p _ _ _ ended-long low k hk
+          ∙ rw (set-kept n (writeField k) (omega arith) (omega arith), set-kept p (writeField k) (omega arith) (omega arith)) refl
 
       pub commit-pending :
           n ≢ p → (k : ℕ) → IsCharge k →
@@ -248,7 +318,8 @@ module _ (s : Ledger) (n p : ℕ) (one : 1 ≤ n) where
           commit-sum-copied k charge
           ∙ copied-sum s n p apart k (charge .1) long low (λ z. omega arith) (le-leb firstCharge k (charge .0))
 
--- a commit that wrote nothing has end time 0 and leaves the counter
-pub unwritten-uncounted : (w : List ℕ) (n : ℕ) → hasWrites w n ≡ false → (commitTime w n ≡ 0) × (commitCounter w n ≡ counter w)
+-- a commit that wrote nothing has end time 0 and leaves the counters
+pub unwritten-uncounted :
+    (w : List ℕ) (n : ℕ) → hasWrites w n ≡ false → (commitTime w n ≡ 0) × (commitCounter w n ≡ counter w (kindOf w n))
 unfolding commitTime commitCounter
 unwritten-uncounted w n nothing = rw nothing (refl, refl)

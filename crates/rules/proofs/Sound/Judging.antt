@@ -1,8 +1,8 @@
 -- A commit that is not refused, passed or failed, keeps a sound table sound. Assumes nothing.
-use Prim.Native.Nat.{ℕ, suc, _-_, _≤_, _<_}
+use Prim.Native.Nat.{ℕ, suc, _≤_, _<_, min}
 use native.Mathlib.Omega.{arith}
 use native.Mathlib.Decide.{ℕ-discrete}
-use native.Mathlib.Nat.{le-of-eq}
+use native.Mathlib.Nat.{le-of-eq, le-trans}
 use mathlib.Core.Path.{_≡_, refl, sym, ap, _∙_}
 use mathlib.Core.Logic.{_⊎_, inl, inr, ⊎-elim, _≢_}
 use mathlib.Core.Bool.{Bool, true, false, not, cond}
@@ -11,20 +11,22 @@ use borrow.Author.Tests.{eqb-true, eq-eqb, ne-eqb}
 use lib.Dec.{eqb}
 use Rattle.rules.specs.Range.{count}
 use Rattle.rules.specs.Card.{accountCount, IsCharge}
-use Rattle.rules.specs.Table.{hasEnd, width, mostActions, live, committed, aborted, word, startedField, started, counterField, counter, parentField, parentOf, stateField, stateOf, withState, endField, endTime, readField, readEntry, hasRead, readTime, writeField, writeEntry, entered, hasWritten, hasWrites, pendingField, pendingWord, isLive, isCommitted, actions}
-use Rattle.rules.specs.Queue.{theQueue, queueLengthField, isQueued}
-use Rattle.rules.specs.Sound.{hasState, IsStarted, Sound}
+use Rattle.rules.specs.Kind.{IsKind, kindUnder}
+use Rattle.rules.specs.Table.{hasEnd, width, mostActions, live, committed, aborted, word, startedField, started, counterField, counter, parentField, parentOf, kindOf, stateField, stateOf, withState, endField, endTime, readField, readEntry, hasRead, subTimeField, subTime, readTime, writeField, writeEntry, entered, hasWritten, hasWrites, pendingField, pendingWord, isLive, isCommitted, actions}
+use Rattle.rules.specs.Queue.{queueLengthField, isQueued}
+use Rattle.rules.specs.Sound.{isCommittedOf, hasState, IsStarted, Sound}
 use Rattle.rules.specs.Ledger.{Ledger}
-use Rattle.rules.specs.Commit.{commitTime, commitCounter, passesRead, joinedRead, committedUnder}
-use Rattle.rules.proofs.Laws.Tests.{and-left, and-right, and-both, test, not-both, false-of-not-true, cond-holds}
+use Rattle.rules.specs.Commit.{commitTime, commitCounter, passesRead, joinedWord, joinedRead, committedUnder}
+use Rattle.rules.proofs.Laws.Tests.{and-left, and-right, and-both, and-false, test, not-both, false-of-not-true}
 use Rattle.rules.proofs.Laws.Ranges.{count-agree, count-one-more}
 use Rattle.rules.proofs.Laws.Permitted.{Committable, no-live-child, not-own-parent}
 use Rattle.rules.proofs.Laws.Words.{withWord-length, word-same, word-other-row, word-off-field}
+use Rattle.rules.proofs.Laws.Kinds.{kind-known, unqueued-in}
 use Rattle.rules.proofs.Laws.Queue.{SameLine}
 use Rattle.rules.proofs.Laws.Walking.{parent-known}
 use Rattle.rules.proofs.Copies.Turns.{addedWord}
-use Rattle.rules.proofs.Sound.TableChanges.{TableChange, Ended, SumStays, sum-stays, line-stays, writes-agree, live-uncommitted}
-use Rattle.rules.proofs.Sound.Committing.{commit-length, commit-started, commit-parent, commit-keeps-row, commit-keeps-sets, commit-keeps-others, commit-line, commit-counter, commit-state, commit-end, commit-read, commit-write, commit-pending}
+use Rattle.rules.proofs.Sound.TableChanges.{ReadsInTime, TableChange, Ended, SumStays, sum-stays, line-stays, writes-agree, live-uncommitted}
+use Rattle.rules.proofs.Sound.Committing.{commit-length, commit-started, commit-parent, commit-keeps-row, commit-keeps-sets, commit-keeps-others, commit-line, commit-counter, commit-other-counter, commit-state, commit-end, commit-read, commit-read-time, commit-write, commit-pending}
 
 -- ---- one action finishes: what its state alone gives of a change
 
@@ -57,10 +59,10 @@ module _ (w v : List ℕ) (n : ℕ) (j : Committable w n)
       go (no ne) = rw (others m (h .0) ne) (s .states m h)
 
   -- whoever waits is another, and stays live
-  pub waiting-stays : Sound w → (m : ℕ) → isQueued w theQueue m ≡ true → isLive v m ≡ true
-  waiting-stays s m queued =
-      let may = s .line .waits m queued in
-      rw (others m (may .begun .0) (λ e. not-both queued (rw e (j .unqueued)))) (may .alive)
+  pub waiting-stays : Sound w → (h : ℕ) → IsKind h → (m : ℕ) → isQueued w h m ≡ true → isLive v m ≡ true
+  waiting-stays s h known m queued =
+      let may = s .lines h known .waits m queued in
+      rw (others m (may .begun .0) (λ e. not-both queued (rw e (unqueued-in w n (j .unqueued) h known)))) (may .alive)
 
 -- ---- a failed commit: the action becomes aborted, and nothing else changes
 
@@ -96,18 +98,24 @@ module _ (w : List ℕ) (s : Sound w) (n : ℕ) (j : Committable w n) where
       (sym (writes-agree w failed m (λ k hk. word-other-row w n m stateField (writeField k) aborted (omega arith) (omega arith) other))
       ∙ and-right (isCommitted failed m) (hasWrites failed m) e)
 
-  fail-reads :
-      (m k : ℕ) → IsStarted w m → isLive failed m ≡ true → k < accountCount → hasRead failed m k ≡ true → readTime failed m k ≤ counter failed
-  fail-reads m k h l hk r =
-      let entry : readEntry failed m k ≡ readEntry w m k = fail-keeps-field m (readField k) (omega arith) (λ z. omega arith) in
-      rw (entry, fail-head counterField (omega arith))
-      (s .reads m k h (was-live w failed n j (inr fail-state) fail-others m h l) hk (rw entry at r))
+  fail-counter : (h : ℕ) → IsKind h → counter failed h ≡ counter w h
+  fail-counter h known = fail-head (counterField h) (omega arith)
 
-  pub fail-line : SameLine w (withState w n aborted) theQueue
-  fail-line =
+  fail-reads : ReadsInTime w failed
+  fail-reads h m k known begun l hk r =
+      let entry : readEntry failed m k ≡ readEntry w m k = fail-keeps-field m (readField k) (omega arith) (λ z. omega arith) in
+      let time : subTime failed m k ≡ subTime w m k = fail-keeps-field m (subTimeField k) (omega arith) (λ z. omega arith) in
+      rw (entry, time, fail-counter h known)
+      (s .reads h m k known begun (was-live w failed n j (inr fail-state) fail-others m begun l) hk (rw entry at r))
+
+  fail-counted : (h : ℕ) (m : ℕ) → 1 ≤ m → isCommittedOf failed h m ≡ isCommittedOf w h m
+  fail-counted h m pos = rw (fail-committed m pos, fail-keeps-field m parentField (omega arith) (λ z. omega arith)) refl
+
+  pub fail-line : (h : ℕ) → IsKind h → SameLine w (withState w n aborted) h
+  fail-line h known =
       record {
-        sameLength = fail-keeps-field 0 (queueLengthField theQueue) (omega arith) (λ z. omega arith);
-        sameEntries = λ i g _ behind inside. fail-keeps-field i g inside (λ z. omega arith);
+        sameLength = fail-keeps-field 0 (queueLengthField h) (omega arith) (λ z. omega arith);
+        sameEntries = λ i g _ first last. fail-keeps-field i g (omega arith) (λ z. omega arith);
       }
 
   pub fail-change : TableChange w (withState w n aborted) n
@@ -116,14 +124,15 @@ module _ (w : List ℕ) (s : Sound w) (n : ℕ) (j : Committable w n) where
       record {
         long = withWord-length w n stateField aborted ∙ s .long;
         sameStarted = fail-head startedField (omega arith);
-        rising = le-of-eq (sym (fail-head counterField (omega arith)));
+        rising = λ h known. le-of-eq (sym (fail-counter h known));
         counted =
+            λ h known.
             rw (
-              fail-head counterField (omega arith),
+              fail-counter h known,
               fail-head startedField (omega arith),
-              count-agree (isCommitted failed) (isCommitted w) 1 (started w) (λ m h. fail-committed m (h .0)),
+              count-agree (isCommittedOf failed h) (isCommittedOf w h) 1 (started w) (λ m r. fail-counted h m (r .0)),
             )
-            (s .counted);
+            (s .counted h known);
         states = has-state w failed n j (inr fail-state) fail-others s;
         parents = λ m h. fail-keeps-field m parentField (omega arith) (λ z. omega arith);
         wasLive = was-live w failed n j (inr fail-state) fail-others;
@@ -134,21 +143,30 @@ module _ (w : List ℕ) (s : Sound w) (n : ℕ) (j : Committable w n) where
             λ m k h charge.
             sum-stays w failed m k (fail-keeps-field m (writeField k) (omega arith) (λ z. omega arith))
             (fail-keeps-field m (pendingField k) (omega arith) (λ z. omega arith));
-        line =
-            line-stays w failed s fail-line
+        lines =
+            λ h known.
+            line-stays w failed s h known (fail-line h known)
             (fail-head startedField (omega arith))
-            (λ m h. fail-keeps-field m parentField (omega arith) (λ z. omega arith))
-            (was-live w failed n j (inr fail-state) fail-others) (waiting-stays w failed n j (inr fail-state) fail-others s);
+            (λ m _. fail-keeps-field m parentField (omega arith) (λ z. omega arith))
+            (was-live w failed n j (inr fail-state) fail-others)
+            (waiting-stays w failed n j (inr fail-state) fail-others s h known);
       }
 
 -- ---- a commit that passes
 
--- the parent's entry after a join is one of the two that were there, so a bound on both is one on it
-joined-bound : (w : List ℕ) (n p k c : ℕ) → readEntry w n k - 1 ≤ c → readEntry w p k - 1 ≤ c → joinedRead w n p k - 1 ≤ c
-joined-bound w n p k c child parent =
-    cond-holds (λ e. e - 1 ≤ c) (passesRead w n p k)
-    (λ _. cond-holds (λ e. e - 1 ≤ c) (eqb (readEntry w p k) 0) (λ _. child) (λ _. omega (arith, child, parent)))
-    (λ _. parent)
+-- the parent's time after a join is one of the two that were there, if the parent has read the account then
+joined-bound :
+    (w : List ℕ) (n p k child parent c : ℕ) → (hasRead w n k ≡ true → child ≤ c) → (hasRead w p k ≡ true → parent ≤ c) →
+    not (eqb (joinedRead w n p k) 0) ≡ true → joinedWord w n p k child parent ≤ c
+joined-bound w n p k child parent c own above = go (passesRead w n p k) (hasRead w p k) refl refl
+  where
+    go :
+        (passes both : Bool) → passesRead w n p k ≡ passes → hasRead w p k ≡ both →
+        not (eqb (cond passes (cond both (min (readEntry w n k) (readEntry w p k)) (readEntry w n k)) (readEntry w p k)) 0) ≡ true →
+        cond passes (cond both (min child parent) child) parent ≤ c
+    go true true q r is = omega (arith, above r)
+    go true false q r is = own (and-left (hasRead w n k) _ q)
+    go false both q r is = above is
 
 module _ (ledger : Ledger) (s : Sound (ledger .table)) (n : ℕ) (j : Committable (ledger .table) n) where
   abbrev w : List ℕ
@@ -176,23 +194,61 @@ module _ (ledger : Ledger) (s : Sound (ledger .table)) (n : ℕ) (j : Committabl
   pass-others : (m : ℕ) → 1 ≤ m → m ≢ n → stateOf passed m ≡ stateOf w m
   pass-others m pos ne = commit-keeps-row ledger n parent (j .own .0) m stateField (omega arith) pos ne (inr (omega arith))
 
-  pass-counter : counter passed ≡ commitCounter w n
+  -- the kind of the action that commits
+  abbrev kind : ℕ
+  kind = kindOf w n
+
+  pass-counter : counter passed kind ≡ commitCounter w n
   pass-counter = commit-counter ledger n parent (j .own .0) (s .long) n-few
 
-  -- the counter goes up by one at the most
-  counter-step : (counter w ≤ commitCounter w n) × (commitCounter w n ≤ suc (counter w))
+  pass-other-counter : (h : ℕ) → IsKind h → h ≢ kind → counter passed h ≡ counter w h
+  pass-other-counter = commit-other-counter ledger n parent (j .own .0) (s .long) n-few
+
+  -- the counter of its kind goes up by one at the most
+  counter-step : (counter w kind ≤ commitCounter w n) × (commitCounter w n ≤ suc (counter w kind))
   unfolding commitCounter
   counter-step =
       ⊎-elim (λ y. rw y (omega arith)) (λ x. rw x (omega arith)) (test (hasWrites w n))
 
-  one-more-committed : count (isCommitted passed) (actions passed) ≡ suc (count (isCommitted w) (actions w))
+  pass-rising : (h : ℕ) → IsKind h → counter w h ≤ counter passed h
+  pass-rising h known = go (ℕ-discrete h kind)
+    where
+      go : Dec (h ≡ kind) → counter w h ≤ counter passed h
+      go (yes e) = rw (e, pass-counter) (counter-step .0)
+      go (no apart) = le-of-eq (sym (pass-other-counter h known apart))
+
+  pass-parent : (m : ℕ) → parentOf passed m ≡ parentOf w m
+  pass-parent = commit-parent ledger n parent (j .own .0)
+
+  -- of its kind one more has committed, of the other as many as before
+  one-more-committed : count (isCommittedOf passed kind) (actions passed) ≡ suc (count (isCommittedOf w kind) (actions w))
   unfolding actions
   one-more-committed =
       rw (commit-started ledger n parent (j .own .0))
-      (count-one-more (isCommitted w) (isCommitted passed) 1 (started w) n (omega (arith, j .own))
-      (false-of-not-true _ (live-uncommitted w n (j .alive)))
-      (eq-eqb _ _ pass-state)
-      (λ m h ne. ap (λ x. eqb x committed) (sym (pass-others m (h .0) ne))))
+      (count-one-more (isCommittedOf w kind) (isCommittedOf passed kind) 1 (started w) n (omega (arith, j .own))
+      (rw (false-of-not-true _ (live-uncommitted w n (j .alive))) refl)
+      (and-both (eq-eqb _ _ pass-state) (eq-eqb _ _ (ap kindUnder (pass-parent n))))
+      (λ m h ne. rw (pass-others m (h .0) ne, pass-parent m) refl))
+
+  others-committed :
+      (h : ℕ) → h ≢ kind → count (isCommittedOf passed h) (actions passed) ≡ count (isCommittedOf w h) (actions w)
+  unfolding actions
+  others-committed h apart =
+      rw (commit-started ledger n parent (j .own .0))
+      (count-agree (isCommittedOf passed h) (isCommittedOf w h) 1 (started w) (λ m r. same m (r .0) (ℕ-discrete m n)))
+    where
+      same : (m : ℕ) → 1 ≤ m → Dec (m ≡ n) → isCommittedOf passed h m ≡ isCommittedOf w h m
+      same m pos (yes e) =
+          let other : eqb kind h ≡ false = ne-eqb kind h (λ z. apart (sym z)) in
+          rw (e, pass-parent n, other) (and-false (isCommitted passed n) ∙ sym (and-false (isCommitted w n)))
+      same m pos (no ne) = rw (pass-others m pos ne, pass-parent m) refl
+
+  pass-counted : (h : ℕ) → IsKind h → counter passed h ≤ count (isCommittedOf passed h) (actions passed)
+  pass-counted h known = go (ℕ-discrete h kind)
+    where
+      go : Dec (h ≡ kind) → counter passed h ≤ count (isCommittedOf passed h) (actions passed)
+      go (yes e) = rw e (rw (pass-counter, one-more-committed) (omega (arith, counter-step .1, s .counted kind (kind-known parent))))
+      go (no apart) = rw (pass-other-counter h known apart, others-committed h apart) (s .counted h known)
 
   -- the write set of the action that commits is as it was, so its end time is what the commit made it
   own-end : hasEnd passed n ≡ true → Ended w passed n n
@@ -226,35 +282,37 @@ module _ (ledger : Ledger) (s : Sound (ledger .table)) (n : ℕ) (j : Committabl
       go (yes z) = rw z (own-end (rw z at e))
       go (no ne) = other-end m h ne e
 
-  old-time : (m k : ℕ) → IsStarted w m → isLive w m ≡ true → k < accountCount → readEntry w m k - 1 ≤ counter passed
-  old-time m k h l hk = go (ℕ-discrete (readEntry w m k) 0)
-    where
-      go : Dec (readEntry w m k ≡ 0) → readEntry w m k - 1 ≤ counter passed
-      go (yes none) = omega (arith, none)
-      go (no ne) = rw pass-counter (omega (arith, s .reads m k h l hk (ap not (ne-eqb _ _ ne)), counter-step .0))
+  -- a read that was there has a time of each kind within that kind's counter now
+  old-time :
+      (h m k : ℕ) → IsKind h → IsStarted w m → isLive w m ≡ true → k < accountCount → hasRead w m k ≡ true →
+      readTime w h m k ≤ counter passed h
+  old-time h m k known begun l hk r = le-trans (s .reads h m k known begun l hk r) (pass-rising h known)
 
-  pass-reads :
-      (m k : ℕ) → IsStarted w m → isLive passed m ≡ true → k < accountCount → hasRead passed m k ≡ true → readTime passed m k ≤ counter passed
-  pass-reads m k h l hk r = go (ℕ-discrete m parent)
+  pass-reads : ReadsInTime w passed
+  pass-reads h m k known begun l hk r = go (ℕ-discrete m parent)
     where
       other : m ≢ n
       other = still-live-other w passed n j (inl pass-state) pass-others m l
 
       was : isLive w m ≡ true
-      was = was-live w passed n j (inl pass-state) pass-others m h l
+      was = was-live w passed n j (inl pass-state) pass-others m begun l
 
-      go : Dec (m ≡ parent) → readTime passed m k ≤ counter passed
+      go : Dec (m ≡ parent) → readTime passed h m k ≤ counter passed h
       go (yes z) =
-          let pos : 1 ≤ parent = rw z at (h .0) in
+          let pos : 1 ≤ parent = rw z at (begun .0) in
           let few : parent ≤ mostActions = omega (arith, parent-started, s .few) in
-          rw (z, commit-read ledger n parent (j .own .0) (s .long) n-few pos few k hk)
-          (joined-bound w n parent k (counter passed)
-          (old-time n k (j .own) (j .alive) hk)
-          (old-time parent k (pos, parent-started) (parent-live pos) hk))
+          let entry = commit-read ledger n parent (j .own .0) (s .long) n-few pos few k hk in
+          rw (z, commit-read-time ledger n parent (j .own .0) (s .long) n-few pos few h k hk)
+          (joined-bound w n parent k (readTime w h n k) (readTime w h parent k) (counter passed h)
+          (old-time h n k known (j .own) (j .alive) hk)
+          (old-time h parent k known (pos, parent-started) (parent-live pos) hk)
+          (rw (z, entry) at r))
       go (no ne) =
           let entry : readEntry passed m k ≡ readEntry w m k =
-          commit-keeps-row ledger n parent (j .own .0) m (readField k) (omega arith) (h .0) other (inl ne) in
-          rw entry (old-time m k h was hk)
+          commit-keeps-row ledger n parent (j .own .0) m (readField k) (omega arith) (begun .0) other (inl ne) in
+          let time : subTime passed m k ≡ subTime w m k =
+          commit-keeps-row ledger n parent (j .own .0) m (subTimeField k) (omega arith) (begun .0) other (inl ne) in
+          rw (entry, time) (old-time h m k known begun was hk (rw entry at r))
 
   -- an account that n has written enters the parent's write set; any other keeps its entry and its sum there
   parent-sums : 1 ≤ parent → (k : ℕ) → IsCharge k → SumStays w passed parent k
@@ -287,17 +345,19 @@ module _ (ledger : Ledger) (s : Sound (ledger .table)) (n : ℕ) (j : Committabl
       record {
         long = commit-length ledger n parent (j .own .0) ∙ s .long;
         sameStarted = commit-started ledger n parent (j .own .0);
-        rising = rw pass-counter (counter-step .0);
-        counted = rw (pass-counter, one-more-committed) (omega (arith, counter-step .1, s .counted));
+        rising = pass-rising;
+        counted = pass-counted;
         states = has-state w passed n j (inl pass-state) pass-others s;
-        parents = λ m h. commit-parent ledger n parent (j .own .0) m;
+        parents = λ m _. pass-parent m;
         wasLive = was-live w passed n j (inl pass-state) pass-others;
         parentStays = parent-stays w passed n j (inl pass-state) pass-others;
         reads = pass-reads;
         ends = pass-end;
         pendings = pass-sums;
-        line =
-            line-stays w passed s (commit-line ledger n parent (j .own .0)) (commit-started ledger n parent (j .own .0))
-            (λ m h. commit-parent ledger n parent (j .own .0) m)
-            (was-live w passed n j (inl pass-state) pass-others) (waiting-stays w passed n j (inl pass-state) pass-others s);
+        lines =
+            λ h known.
+            line-stays w passed s h known (commit-line ledger n parent (j .own .0) h known)
+            (commit-started ledger n parent (j .own .0)) (λ m _. pass-parent m)
+            (was-live w passed n j (inl pass-state) pass-others)
+            (waiting-stays w passed n j (inl pass-state) pass-others s h known);
       }

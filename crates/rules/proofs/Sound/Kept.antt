@@ -6,14 +6,16 @@ use mathlib.Core.Bool.{Bool, true, false}
 use mathlib.Core.List.{List, []}
 use Rattle.rules.specs.Range.{upFrom, all, count}
 use Rattle.rules.specs.Card.{IsCharge}
-use Rattle.rules.specs.Table.{word, newTable, actions}
-use Rattle.rules.specs.Queue.{theQueue, queue, isQueued, isQueuedFailed, withoutBelow}
-use Rattle.rules.specs.Sound.{areDistinct, queueNumbers, isSoundQueue, sound, Sound}
+use Rattle.rules.specs.Table.{word, newTable, kindOf, parentOf, actions}
+use Rattle.rules.specs.Kind.{kinds}
+use Rattle.rules.specs.Queue.{queue, isQueued, withoutBelow}
+use Rattle.rules.specs.Sound.{isCounted, areDistinct, queueNumbers, isSoundQueue, sound, Sound}
 use Rattle.rules.specs.Event.{Event}
 use Rattle.rules.specs.declared.Found.{Found}
 use Rattle.rules.specs.declared.Found.the-variants.{Nothing, At}
 use Rattle.rules.specs.Ledger.{Ledger}
-use Rattle.rules.specs.Step.{Outcome, start, read, write, add, judged, enter, revealed, judgeLeft, judge, dropped, abortLeft, abort, step}
+use Rattle.rules.specs.Step.{Outcome, start, read, write, add, judged, enterTable, enter, isJudgedFailed, revealed, judgeLeft, judge, dropped, abortLeft, abort, step}
+use Rattle.rules.proofs.Laws.Kinds.{kind-known}
 use Rattle.rules.proofs.Laws.Permitted.{Startable, Touchable, Committable, Judgeable, step-by-kind}
 use Rattle.rules.proofs.Sound.Soundness.{facts}
 use Rattle.rules.proofs.Sound.TableChanges.{TableChange, change-keeps-sound}
@@ -23,11 +25,12 @@ use Rattle.rules.proofs.Sound.Writing.{write-change}
 use Rattle.rules.proofs.Sound.Adding.{add-change}
 use Rattle.rules.proofs.Sound.Judging.{fail-change, commit-change}
 use Rattle.rules.proofs.Sound.Aborting.{abort-change}
-use Rattle.rules.proofs.Sound.QueueChanges.{tail-change, ready-change, still-queued, without-change, same-reach, out-committable}
-use Rattle.rules.proofs.Sound.Leaving.{leave-keeps-sound}
+use Rattle.rules.proofs.Sound.QueueChanges.{tail-change, ready-change, without-change, out-committable}
+use Rattle.rules.proofs.Sound.TakingOut.{out-sound, out-reach, out-spared}
+use Rattle.rules.proofs.Sound.Leaving.{leave-keeps-sound, both-keep-sound}
 
 pub new-sound : Sound newTable
-unfolding sound newTable word actions upFrom all count isSoundQueue areDistinct queueNumbers queue
+unfolding sound newTable word actions upFrom all count kinds isCounted isSoundQueue areDistinct queueNumbers queue
 new-sound = facts newTable refl
 
 -- ---- event by event, where it isn't refused
@@ -62,33 +65,38 @@ module _ (s : Ledger) (was : Sound (s .table)) (n : ℕ) where
   judged-sound j (At t k) = by-change _ (fail-change (s .table) was n j)
 
   enter-sound : Committable (s .table) n → Sounds (enter s n) []
-  unfolding enter
-  enter-sound free = by-change _ (tail-change was n free _ n)
+  unfolding enter enterTable
+  enter-sound free = by-change _ (tail-change was (kindOf (s .table) n) (kind-known (parentOf (s .table) n)) n refl free _ n)
 
-  -- before the head is tried
-  pub out-sound : Sound (withoutBelow (s .table) theQueue n)
-  out-sound = by-change _ (without-change was n n)
+  -- before a head is tried: where it is its own queue's
+  pub left-sound : Sound (withoutBelow (s .table) (kindOf (s .table) n) n)
+  left-sound = by-change _ (without-change was (kindOf (s .table) n) (kind-known (parentOf (s .table) n)) n n)
 
-  pub revealed-sound : isQueued (s .table) theQueue n ≡ true → (b : Bool) → Sound (revealed s n b .table)
+  pub revealed-sound : isQueued (s .table) (kindOf (s .table) n) n ≡ true → (b : Bool) → Sound (revealed s n b .table)
   unfolding revealed
   revealed-sound queued true =
-      change-keeps-sound _ _ n out-sound (fail-change _ out-sound n (out-committable was n queued))
-  revealed-sound queued false = by-change _ (ready-change was n n)
+      change-keeps-sound _ _ n left-sound
+      (fail-change _ left-sound n (out-committable was (kindOf (s .table) n) (kind-known (parentOf (s .table) n)) n queued))
+  revealed-sound queued false =
+      by-change _ (ready-change was (kindOf (s .table) n) (kind-known (parentOf (s .table) n)) n n)
 
+  -- .. and where it is either queue's
   pub dropped-sound : Sound (dropped s n .table)
   unfolding dropped
   dropped-sound =
-      change-keeps-sound _ _ n out-sound
-      (abort-change _ n out-sound (λ m queued. same-reach was n m ∙ still-queued was n m queued .1))
+      change-keeps-sound _ _ n (out-sound was n)
+      (abort-change _ n (out-sound was n) (λ h known m queued. out-reach was n m ∙ out-spared was n h known m queued .1))
 
   -- and after
   judge-sound : Judgeable (s .table) n → Sounds (judge s n) []
   unfolding judge judgeLeft
-  judge-sound j = leave-keeps-sound _ (revealed-sound (j .queued) (isQueuedFailed (s .table) theQueue n))
+  judge-sound j =
+      leave-keeps-sound (kindOf (s .table) n) (kind-known (parentOf (s .table) n)) _
+      (revealed-sound (j .queued) (isJudgedFailed (s .table) n))
 
   abort-sound : Sounds (abort s n) []
   unfolding abort abortLeft
-  abort-sound = leave-keeps-sound _ dropped-sound
+  abort-sound = both-keep-sound _ dropped-sound
 
 -- ---- any event
 

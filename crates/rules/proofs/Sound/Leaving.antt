@@ -1,5 +1,5 @@
--- Those who leave the queue, one after the other: what each of them finds, that the table stays sound, and that they leave until
--- no ready one is at the head. Assumes nothing.
+-- Those who leave a queue, of either kind, one after the other: what each of them finds, that the table stays sound and the other
+-- queue as it was, and that they leave until no ready one is at the head. Assumes nothing.
 use Prim.Native.Nat.{ℕ, zero, suc, _≤_}
 use native.Mathlib.Omega.{arith}
 use native.Mathlib.Decide.{ℕ-discrete}
@@ -13,10 +13,11 @@ use borrow.Author.Tests.{ltb-true, eqb-true, eq-eqb}
 use Rattle.rules.specs.Range.{upFrom, any, filter}
 use Rattle.rules.specs.Table.{parentOf, isLive, hasLiveChild}
 use Rattle.rules.specs.Walk.{isAtOrBelow, isAbortedBy}
-use Rattle.rules.specs.Queue.{theQueue, queueLength, Entry, entryAt, queue, isQueued, headOf, isHeadReady, keepsPlace, withoutBelow}
+use Rattle.rules.specs.Kind.{IsKind, topKind, subKind}
+use Rattle.rules.specs.Queue.{queueLength, Entry, entryAt, queue, isQueued, headOf, isHeadReady, keepsPlace, withoutBelow}
 use Rattle.rules.specs.Sound.{areDistinct, queueNumbers, IsStarted, Sound}
 use Rattle.rules.specs.Ledger.{Ledger}
-use Rattle.rules.specs.Step.{finished, Left, nobodyLeft, leaveWhile, leave, headIn, headOut, isHeadOutside, headLeft, headBefore}
+use Rattle.rules.specs.Step.{finished, Left, nobodyLeft, leaveWhile, leave, leaveBoth, headIn, headOut, isHeadOutside, headLeft, headBefore}
 use Rattle.rules.proofs.Laws.Tests.{and-left, and-both, or-cases, or-inl, or-inr, not-both, false-of-not-true}
 use Rattle.rules.proofs.Laws.Lists.{any-map, all-map, listed-all, filter-whole}
 use Rattle.rules.proofs.Laws.Distinct.{distinct-parts}
@@ -24,7 +25,7 @@ use Rattle.rules.proofs.Laws.Queue.{queue-kept, queue-length}
 use Rattle.rules.proofs.Laws.Permitted.{Committable, no-live-child}
 use Rattle.rules.proofs.Laws.Walking.{Climbs, climb-holds, sound-climbs, parent-known, atOrBelow-store, atOrBelow-step, atOrBelow-itself}
 use Rattle.rules.proofs.Sound.TableChanges.{change-keeps-sound}
-use Rattle.rules.proofs.Sound.QueueChanges.{numbersOf, without-queue, without-change, out-committable}
+use Rattle.rules.proofs.Sound.QueueChanges.{numbersOf, without-queue, without-other-queue, without-change, out-committable}
 use Rattle.rules.proofs.Sound.Committing.{commit-line}
 use Rattle.rules.proofs.Sound.Judging.{fail-line, fail-change, commit-change}
 
@@ -74,36 +75,36 @@ nobody-below {w} s n none m begun alive other =
         (λ higher. by-parent x h l higher above (ℕ-discrete (parentOf w x) n) (ℕ-discrete (parentOf w x) 0))
         (or-cases (eqb x n) _ (sym (atOrBelow-step w n x ne up) ∙ below))
 
-module _ {w : List ℕ} (s : Sound w) (e : Entry) (es : List Entry) (stands : queue w theQueue ≡ e ∷ es) where
+module _ (h : ℕ) (known : IsKind h) {w : List ℕ} (s : Sound w) (e : Entry) (es : List Entry) (stands : queue w h ≡ e ∷ es) where
   abbrev n : ℕ
   n = e .number
 
   numbers-stand : areDistinct (n ∷ numbersOf es) ≡ true
   unfolding queueNumbers
-  numbers-stand = rw stands at (s .line .once)
+  numbers-stand = rw stands at (s .lines h known .once)
 
-  listed-queued : (m : ℕ) → any (eqb m) (n ∷ numbersOf es) ≡ true → isQueued w theQueue m ≡ true
+  listed-queued : (m : ℕ) → any (eqb m) (n ∷ numbersOf es) ≡ true → isQueued w h m ≡ true
   unfolding isQueued
   listed-queued m listed = rw stands (sym (any-map (eqb m) (λ (x : Entry). x .number) (e ∷ es)) ∙ listed)
 
   first-reached : isAbortedBy w n n ≡ true
   unfolding any
   first-reached =
-      let may = s .line .waits n (listed-queued n (or-inl _ (eq-eqb n n refl))) in
+      let may = s .lines h known .waits n (listed-queued n (or-inl _ (eq-eqb n n refl))) in
       and-both (may .alive) (atOrBelow-itself w n (λ z. omega (arith, may .begun)) (sound-climbs s n (may .begun .1)))
 
   others-spared : (m : ℕ) → any (eqb m) (numbersOf es) ≡ true → not (isAbortedBy w n m) ≡ true
   unfolding any
   others-spared m listed =
-      let first = s .line .waits n (listed-queued n (or-inl _ (eq-eqb n n refl))) in
-      let may = s .line .waits m (listed-queued m (or-inr (eqb m n) listed)) in
+      let first = s .lines h known .waits n (listed-queued n (or-inl _ (eq-eqb n n refl))) in
+      let may = s .lines h known .waits m (listed-queued m (or-inr (eqb m n) listed)) in
       let other : m ≢ n = λ same. not-both (rw same at listed) (distinct-parts n (numbersOf es) numbers-stand .0) in
       rw (may .alive, nobody-below s n (first .childless) m (may .begun) (may .alive) other)
 
-  pub taken-head : queue (withoutBelow w theQueue (e .number)) theQueue ≡ es
+  pub taken-head : queue (withoutBelow w h (e .number)) h ≡ es
   unfolding filter keepsPlace
   taken-head =
-      without-queue s n
+      without-queue s h known n
       ∙ ap (filter (keepsPlace w n)) stands
       ∙ rw first-reached
       (filter-whole (keepsPlace w n) es
@@ -112,91 +113,112 @@ module _ {w : List ℕ} (s : Sound w) (e : Entry) (es : List Entry) (stands : qu
 
 -- ---- one leaves
 
-module _ (s : Ledger) (sound : Sound (s .table)) (ready : isHeadReady (s .table) theQueue ≡ true) where
-  pub head-out-sound : Sound (headOut theQueue s .table)
-  head-out-sound = change-keeps-sound (s .table) _ 0 sound (without-change sound (headIn theQueue s) 0)
+module _ (h : ℕ) (known : IsKind h) (s : Ledger) (sound : Sound (s .table)) (ready : isHeadReady (s .table) h ≡ true) where
+  pub head-out-sound : Sound (headOut h s .table)
+  head-out-sound = change-keeps-sound (s .table) _ 0 sound (without-change sound h known (headIn h s) 0)
 
-  pub head-committable : Committable (headOut theQueue s .table) (headIn theQueue s)
-  head-committable = out-committable sound (headIn theQueue s) (head-queued (s .table) theQueue ready)
+  pub head-committable : Committable (headOut h s .table) (headIn h s)
+  head-committable = out-committable sound h known (headIn h s) (head-queued (s .table) h ready)
 
-  -- its table is sound, and the queue is as it was when the head was taken out
-  finished-sound : (b : Bool) → Sound (finished (headOut theQueue s) (headIn theQueue s) b .table)
+  -- its table is sound, and both queues are as they were when the head was taken out
+  finished-sound : (b : Bool) → Sound (finished (headOut h s) (headIn h s) b .table)
   unfolding finished
-  finished-sound true = change-keeps-sound _ _ _ head-out-sound (fail-change _ head-out-sound (headIn theQueue s) head-committable)
-  finished-sound false = change-keeps-sound _ _ _ head-out-sound (commit-change _ head-out-sound (headIn theQueue s) head-committable)
+  finished-sound true = change-keeps-sound _ _ _ head-out-sound (fail-change _ head-out-sound (headIn h s) head-committable)
+  finished-sound false = change-keeps-sound _ _ _ head-out-sound (commit-change _ head-out-sound (headIn h s) head-committable)
 
-  pub head-left-sound : Sound (headLeft theQueue s .table)
-  head-left-sound = finished-sound (isHeadOutside theQueue s)
+  pub head-left-sound : Sound (headLeft h s .table)
+  head-left-sound = finished-sound (isHeadOutside h s)
 
-  pub finished-queue : (b : Bool) → queue (finished (headOut theQueue s) (headIn theQueue s) b .table) theQueue ≡ queue (headOut theQueue s .table) theQueue
+  pub finished-queue :
+      (x : ℕ) → IsKind x → (b : Bool) → queue (finished (headOut h s) (headIn h s) b .table) x ≡ queue (headOut h s .table) x
   unfolding finished
-  finished-queue true = queue-kept _ _ theQueue (omega arith) (fail-line _ head-out-sound (headIn theQueue s) head-committable)
-  finished-queue false = queue-kept _ _ theQueue (omega arith) (commit-line _ (headIn theQueue s) _ (head-committable .own .0))
+  finished-queue x is true = queue-kept _ _ x is (fail-line _ head-out-sound (headIn h s) head-committable x is)
+  finished-queue x is false = queue-kept _ _ x is (commit-line _ (headIn h s) _ (head-committable .own .0) x is)
+
+  -- the other queue is as it was
+  pub head-left-other : (x : ℕ) → IsKind x → x ≢ h → queue (headLeft h s .table) x ≡ queue (s .table) x
+  head-left-other x is apart =
+      finished-queue x is (isHeadOutside h s) ∙ without-other-queue sound h known (headIn h s) x is apart
 
   -- it loses its head
-  pub head-left-queue : (es : List Entry) → queue (s .table) theQueue ≡ entryAt (s .table) theQueue 1 ∷ es → queue (headLeft theQueue s .table) theQueue ≡ es
+  pub head-left-queue : (es : List Entry) → queue (s .table) h ≡ entryAt (s .table) h 1 ∷ es → queue (headLeft h s .table) h ≡ es
   unfolding entryAt
-  head-left-queue es stands = finished-queue (isHeadOutside theQueue s) ∙ taken-head sound _ es stands
+  head-left-queue es stands = finished-queue h known (isHeadOutside h s) ∙ taken-head h known sound _ es stands
 
-  pub one-fewer : queueLength (s .table) theQueue ≡ suc (queueLength (headLeft theQueue s .table) theQueue)
+  pub one-fewer : queueLength (s .table) h ≡ suc (queueLength (headLeft h s .table) h)
   one-fewer =
-      let (es, stands) = ready-head (s .table) theQueue ready in
-      sym (queue-length (s .table) theQueue)
+      let (es, stands) = ready-head (s .table) h ready in
+      sym (queue-length (s .table) h)
       ∙ ap length stands
       ∙ ap (λ (l : List Entry). suc (length l)) (sym (head-left-queue es stands))
-      ∙ ap suc (queue-length (headLeft theQueue s .table) theQueue)
+      ∙ ap suc (queue-length (headLeft h s .table) h)
 
 -- ---- all who leave
 
 -- What holds where nobody leaves, and where it holds of those who leave after the head holds with the head, holds of all.
 module _
-    (R : Ledger → Left → Type 0) (nobody : (s : Ledger) → Sound (s .table) → R s (nobodyLeft s))
+    (h : ℕ) (known : IsKind h) (R : Ledger → Left → Type 0) (nobody : (s : Ledger) → Sound (s .table) → R s (nobodyLeft s))
     (head :
-    (s : Ledger) → Sound (s .table) → isHeadReady (s .table) theQueue ≡ true → (rest : Left) → R (headLeft theQueue s) rest →
-    R s (headBefore theQueue s rest)) where
+    (s : Ledger) → Sound (s .table) → isHeadReady (s .table) h ≡ true → (rest : Left) → R (headLeft h s) rest →
+    R s (headBefore h s rest)) where
   while-by-heads :
-      (most : ℕ) (s : Ledger) → Sound (s .table) → (b : Bool) → isHeadReady (s .table) theQueue ≡ b → R s (leaveWhile most b theQueue s)
+      (most : ℕ) (s : Ledger) → Sound (s .table) → (b : Bool) → isHeadReady (s .table) h ≡ b → R s (leaveWhile most b h s)
   unfolding leaveWhile
   while-by-heads zero s sound b is = nobody s sound
   while-by-heads (suc most) s sound false is = nobody s sound
   while-by-heads (suc most) s sound true is =
-      head s sound is _ (while-by-heads most (headLeft theQueue s) (head-left-sound s sound is) (isHeadReady (headLeft theQueue s .table) theQueue) refl)
+      head s sound is _
+      (while-by-heads most (headLeft h s) (head-left-sound h known s sound is) (isHeadReady (headLeft h s .table) h) refl)
 
-  pub leave-by-heads : (s : Ledger) → Sound (s .table) → R s (leave theQueue s)
+  pub leave-by-heads : (s : Ledger) → Sound (s .table) → R s (leave h s)
   unfolding leave
-  leave-by-heads s sound = while-by-heads (queueLength (s .table) theQueue) s sound (isHeadReady (s .table) theQueue) refl
+  leave-by-heads s sound = while-by-heads (queueLength (s .table) h) s sound (isHeadReady (s .table) h) refl
 
-pub leave-keeps-sound : (s : Ledger) → Sound (s .table) → Sound (leave theQueue s .after .table)
-leave-keeps-sound = leave-by-heads (λ _ left. Sound (left .after .table)) (λ s sound. sound) (λ s sound ready rest sounds. sounds)
+pub leave-keeps-sound : (h : ℕ) → IsKind h → (s : Ledger) → Sound (s .table) → Sound (leave h s .after .table)
+leave-keeps-sound h known =
+    leave-by-heads h known (λ _ left. Sound (left .after .table)) (λ s sound. sound) (λ s sound ready rest sounds. sounds)
+
+pub both-keep-sound : (s : Ledger) → Sound (s .table) → Sound (leaveBoth s .after .table)
+unfolding leaveBoth
+both-keep-sound s sound = leave-keeps-sound subKind (omega arith) _ (leave-keeps-sound topKind (omega arith) s sound)
+
+-- the other queue is left as it was
+pub leave-other-queue :
+    (h : ℕ) → IsKind h → (x : ℕ) → IsKind x → x ≢ h → (s : Ledger) → Sound (s .table) →
+    queue (leave h s .after .table) x ≡ queue (s .table) x
+leave-other-queue h known x is apart =
+    leave-by-heads h known (λ s left. queue (left .after .table) x ≡ queue (s .table) x) (λ s sound. refl)
+    (λ s sound ready rest kept. kept ∙ head-left-other h known s sound ready x is apart)
 
 -- ---- as long as the head is ready
 
-pub nobody-leaves : (s : Ledger) → isHeadReady (s .table) theQueue ≡ false → leave theQueue s ≡ nobodyLeft s
+pub nobody-leaves : (h : ℕ) (s : Ledger) → isHeadReady (s .table) h ≡ false → leave h s ≡ nobodyLeft s
 unfolding leave leaveWhile
-nobody-leaves s unready = rw unready (stays (queueLength (s .table) theQueue))
+nobody-leaves h s unready = rw unready (stays (queueLength (s .table) h))
   where
-    stays : (most : ℕ) → leaveWhile most false theQueue s ≡ nobodyLeft s
+    stays : (most : ℕ) → leaveWhile most false h s ≡ nobodyLeft s
     stays zero = refl
     stays (suc most) = refl
 
 pub head-leaves :
-    (s : Ledger) → Sound (s .table) → isHeadReady (s .table) theQueue ≡ true →
-    leave theQueue s ≡ headBefore theQueue s (leave theQueue (headLeft theQueue s))
+    (h : ℕ) → IsKind h → (s : Ledger) → Sound (s .table) → isHeadReady (s .table) h ≡ true →
+    leave h s ≡ headBefore h s (leave h (headLeft h s))
 unfolding leave leaveWhile
-head-leaves s sound ready = rw (ready, one-fewer s sound ready) refl
+head-leaves h known s sound ready = rw (ready, one-fewer h known s sound ready) refl
 
 -- the bound is enough: no ready one is left at the head
 none-ready-left :
-    (most : ℕ) (s : Ledger) → Sound (s .table) → queueLength (s .table) theQueue ≡ most → (b : Bool) →
-    isHeadReady (s .table) theQueue ≡ b → isHeadReady (leave theQueue s .after .table) theQueue ≡ false
-none-ready-left zero s sound long true is = absurd (omega (arith, one-fewer s sound is))
-none-ready-left zero s sound long false is = rw (nobody-leaves s is) is
-none-ready-left (suc most) s sound long false is = rw (nobody-leaves s is) is
-none-ready-left (suc most) s sound long true is =
-    rw (head-leaves s sound is)
-    (none-ready-left most (headLeft theQueue s) (head-left-sound s sound is) (omega (arith, one-fewer s sound is, long))
-    (isHeadReady (headLeft theQueue s .table) theQueue) refl)
+    (h : ℕ) → IsKind h → (most : ℕ) (s : Ledger) → Sound (s .table) → queueLength (s .table) h ≡ most → (b : Bool) →
+    isHeadReady (s .table) h ≡ b → isHeadReady (leave h s .after .table) h ≡ false
+none-ready-left h known zero s sound long true is = absurd (omega (arith, one-fewer h known s sound is))
+none-ready-left h known zero s sound long false is = rw (nobody-leaves h s is) is
+none-ready-left h known (suc most) s sound long false is = rw (nobody-leaves h s is) is
+none-ready-left h known (suc most) s sound long true is =
+    rw (head-leaves h known s sound is)
+    (none-ready-left h known most (headLeft h s) (head-left-sound h known s sound is)
+    (omega (arith, one-fewer h known s sound is, long))
+    (isHeadReady (headLeft h s .table) h) refl)
 
-pub all-ready-leave : (s : Ledger) → Sound (s .table) → isHeadReady (leave theQueue s .after .table) theQueue ≡ false
-all-ready-leave s sound =
-    none-ready-left (queueLength (s .table) theQueue) s sound refl (isHeadReady (s .table) theQueue) refl
+pub all-ready-leave : (h : ℕ) → IsKind h → (s : Ledger) → Sound (s .table) → isHeadReady (leave h s .after .table) h ≡ false
+all-ready-leave h known s sound =
+    none-ready-left h known (queueLength (s .table) h) s sound refl (isHeadReady (s .table) h) refl

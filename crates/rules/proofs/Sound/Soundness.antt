@@ -10,13 +10,15 @@ use lib.Dec.{leb, ltb, eqb}
 use lib.ListN.{length}
 use Rattle.rules.specs.Range.{any, all, count}
 use Rattle.rules.specs.Card.{accountCount, accounts, firstCharge, chargeCount, IsCharge, chargeAccounts}
-use Rattle.rules.specs.Table.{hasEnd, tableLength, mostActions, started, counter, parentOf, endTime, hasRead, readTime, writeEntry, hasWritten, pendingWord, isLive, isCommitted, actions}
-use Rattle.rules.specs.Queue.{theQueue, queueLength, queue, isQueued}
-use Rattle.rules.specs.Sound.{hasState, hasParentBelow, hasParentAlive, hasReadInTime, hasEndInTime, sharesEndTime, hasEndAlone, hasPendingWritten, isSoundAction, mayWait, queueNumbers, isSoundQueue, sound, IsStarted, MayWait, SoundQueue, Sound}
+use Rattle.rules.specs.Kind.{IsKind, kinds}
+use Rattle.rules.specs.Table.{hasEnd, tableLength, mostActions, started, counter, parentOf, kindOf, endTime, hasRead, readTime, writeEntry, hasWritten, pendingWord, isLive, actions}
+use Rattle.rules.specs.Queue.{queueLength, queue, isQueued}
+use Rattle.rules.specs.Sound.{isCommittedOf, isCounted, hasState, hasParentBelow, hasParentAlive, hasTimesIn, hasReadInTime, hasEndInTime, sharesEndTime, hasEndAlone, hasPendingWritten, isSoundAction, mayWait, queueNumbers, isSoundQueue, sound, IsStarted, MayWait, SoundQueue, Sound}
 use Rattle.rules.proofs.Laws.Tests.{and-left, and-right, and-both, or-cases, or-inl, or-inr, test, implied, implies, not-both, false-of-not-true}
 use Rattle.rules.proofs.Laws.Ranges.{Within, all-at, all-of, count-at-most}
 use Rattle.rules.proofs.Laws.Lists.{any-map, all-listed, listed-all}
 use Rattle.rules.proofs.Laws.Sets.{charge-within}
+use Rattle.rules.proofs.Laws.Kinds.{all-kinds, kinds-all}
 
 -- the started actions are the numbers of the run that the scans go over
 started-within : (w : List ℕ) (n : ℕ) → IsStarted w n → Within 1 (started w) n
@@ -51,30 +53,35 @@ module _ (w : List ℕ) (n : ℕ) where
       (λ p. ⊎-elim (λ e. or-inl _ (eq-eqb _ _ e)) (λ q. or-inr (eqb (parentOf w n) 0) q) (f p))
 
   ReadsInTime : Type 0
-  ReadsInTime = isLive w n ≡ true → (k : ℕ) → k < accountCount → hasRead w n k ≡ true → readTime w n k ≤ counter w
+  ReadsInTime =
+      isLive w n ≡ true → (h : ℕ) → IsKind h → (k : ℕ) → k < accountCount → hasRead w n k ≡ true → readTime w h n k ≤ counter w h
 
   reads-fact : hasReadInTime w n ≡ true → ReadsInTime
-  unfolding ReadsInTime hasReadInTime accounts
-  reads-fact h p k hk r =
-      let fold : (not (hasRead w n k) || leb (readTime w n k) (counter w)) ≡ true =
-      all-at _ 0 accountCount k (implied (isLive w n) _ h p) (omega arith) in
-      leb-true _ _ (implied (hasRead w n k) _ fold r)
+  unfolding ReadsInTime hasReadInTime hasTimesIn accounts
+  reads-fact t p h known k hk r =
+      let fold : (not (hasRead w n k) || leb (readTime w h n k) (counter w h)) ≡ true =
+      all-at _ 0 accountCount k (all-kinds (hasTimesIn w n) (implied (isLive w n) _ t p) h known) (omega arith) in
+      leb-true (readTime w h n k) (counter w h) (implied (hasRead w n k) _ fold r)
 
   reads-test : ReadsInTime → hasReadInTime w n ≡ true
-  unfolding ReadsInTime hasReadInTime accounts
+  unfolding ReadsInTime hasReadInTime hasTimesIn accounts
   reads-test f =
       implies (isLive w n) _
-      (λ p. all-of _ 0 accountCount (λ k h. implies (hasRead w n k) _ (λ r. le-leb _ _ (f p k (omega arith) r))))
+      (λ p.
+      kinds-all (hasTimesIn w n)
+      (λ h known.
+      all-of _ 0 accountCount
+      (λ k r. implies (hasRead w n k) _ (λ read. le-leb (readTime w h n k) (counter w h) (f p h known k (omega arith) read)))))
 
   EndInTime : Type 0
-  EndInTime = hasEnd w n ≡ true → (1 ≤ endTime w n) × (endTime w n ≤ counter w)
+  EndInTime = hasEnd w n ≡ true → (1 ≤ endTime w n) × (endTime w n ≤ counter w (kindOf w n))
 
   end-fact : hasEndInTime w n ≡ true → EndInTime
   unfolding EndInTime
   end-fact h p =
       let both = implied (hasEnd w n) _ h p in (
-        leb-true _ _ (and-left (leb 1 (endTime w n)) (leb (endTime w n) (counter w)) both),
-        leb-true _ _ (and-right (leb 1 (endTime w n)) (leb (endTime w n) (counter w)) both),
+        leb-true _ _ (and-left (leb 1 (endTime w n)) (leb (endTime w n) (counter w (kindOf w n))) both),
+        leb-true _ _ (and-right (leb 1 (endTime w n)) (leb (endTime w n) (counter w (kindOf w n))) both),
       )
 
   end-test : EndInTime → hasEndInTime w n ≡ true
@@ -167,43 +174,62 @@ module _ (w : List ℕ) (n : ℕ) where
       (and-both (and-both (and-both (and-both (and-both (s .state) (s .below)) (s .alive)) (s .reads)) (s .end)) (s .alone))
       (s .pendings)
 
--- ---- the queue
+-- ---- the counters
+
+module _ (w : List ℕ) (h : ℕ) where
+  counted-fact : isCounted w h ≡ true → counter w h ≤ count (isCommittedOf w h) (actions w)
+  unfolding isCounted
+  counted-fact t = leb-true _ _ t
+
+  counted-test : counter w h ≤ count (isCommittedOf w h) (actions w) → isCounted w h ≡ true
+  unfolding isCounted
+  counted-test few = le-leb _ _ few
+
+-- ---- a queue
 
 -- who is queued is who is listed
 pub queued-listed : (w : List ℕ) (h n : ℕ) → isQueued w h n ≡ any (eqb n) (queueNumbers w h)
 unfolding isQueued queueNumbers
 queued-listed w h n = sym (any-map (eqb n) (λ e. e .number) (queue w h))
 
-module _ (w : List ℕ) (n : ℕ) where
-  waiting-facts : mayWait w n ≡ true → MayWait w n
+module _ (w : List ℕ) (h n : ℕ) where
+  waiting-facts : mayWait w h n ≡ true → MayWait w h n
   unfolding mayWait
   waiting-facts t =
       let first = leb 1 n in
       let known = leb n (started w) in
-      let t2 = and-left (first && known && isLive w n) _ t in
+      let kind = eqb (kindOf w n) h in
+      let t3 = and-left (first && known && isLive w n && kind) _ t in
+      let t2 = and-left (first && known && isLive w n) kind t3 in
       let t1 = and-left (first && known) _ t2 in
       record {
         begun = (leb-true _ _ (and-left first known t1), leb-true _ _ (and-right first known t1));
         alive = and-right (first && known) _ t2;
-        childless = not-true _ (and-right (first && known && isLive w n) _ t);
+        kind = eqb-true _ _ (and-right (first && known && isLive w n) kind t3);
+        childless = not-true _ (and-right (first && known && isLive w n && kind) _ t);
       }
 
-  waiting-tested : MayWait w n → mayWait w n ≡ true
+  waiting-tested : MayWait w h n → mayWait w h n ≡ true
   unfolding mayWait
   waiting-tested may =
-      and-both (and-both (and-both (le-leb _ _ (may .begun .0)) (le-leb _ _ (may .begun .1))) (may .alive)) (ap not (may .childless))
+      and-both
+      (and-both
+      (and-both (and-both (le-leb _ _ (may .begun .0)) (le-leb _ _ (may .begun .1))) (may .alive))
+      (eq-eqb _ _ (may .kind)))
+      (ap not (may .childless))
 
 module _ (w : List ℕ) (h : ℕ) where
   queue-facts : isSoundQueue w h ≡ true → SoundQueue w h
   unfolding isSoundQueue
   queue-facts t =
       let short = leb (queueLength w h) mostActions in
-      let waits = all (mayWait w) (queueNumbers w h) in
+      let waits = all (mayWait w h) (queueNumbers w h) in
       let t1 = and-left (short && waits) _ t in
       record {
         short = leb-true _ _ (and-left short waits t1);
         waits = λ n queued.
-            waiting-facts w n (all-listed (mayWait w) (queueNumbers w h) (and-right short waits t1) n (sym (queued-listed w h n) ∙ queued));
+            waiting-facts w h n
+            (all-listed (mayWait w h) (queueNumbers w h) (and-right short waits t1) n (sym (queued-listed w h n) ∙ queued));
         once = and-right (short && waits) _ t;
       }
 
@@ -212,7 +238,7 @@ module _ (w : List ℕ) (h : ℕ) where
   queue-tested q =
       and-both
       (and-both (le-leb _ _ (q .short))
-      (listed-all (mayWait w) (queueNumbers w h) (λ n listed. waiting-tested w n (q .waits n (queued-listed w h n ∙ listed)))))
+      (listed-all (mayWait w h) (queueNumbers w h) (λ n listed. waiting-tested w h n (q .waits n (queued-listed w h n ∙ listed)))))
       (q .once)
 
 -- of two numbers one is the lower, or they are one
@@ -228,9 +254,9 @@ module _ (w : List ℕ) where
   facts t =
       let long = eqb (length w) tableLength in
       let few = leb (started w) mostActions in
-      let counted = leb (counter w) (count (isCommitted w) (actions w)) in
+      let counted = all (isCounted w) kinds in
       let fold = all (isSoundAction w) (actions w) in
-      let t4 = and-left (long && few && counted && fold) (isSoundQueue w theQueue) t in
+      let t4 = and-left (long && few && counted && fold) (all (isSoundQueue w) kinds) t in
       let t3 = and-left (long && few && counted) fold t4 in
       let t2 = and-left (long && few) counted t3 in
       let of : (n : ℕ) → IsStarted w n → SoundAction w n =
@@ -238,11 +264,11 @@ module _ (w : List ℕ) where
       record {
         long = eqb-true _ _ (and-left long few t2);
         few = leb-true _ _ (and-right long few t2);
-        counted = leb-true _ _ (and-right (long && few) counted t3);
+        counted = λ h known. counted-fact w h (all-kinds (isCounted w) (and-right (long && few) counted t3) h known);
         states = λ n h. of n h .state;
         below = λ n h. ltb-true _ _ (of n h .below);
         alive = λ n h. alive-fact w n (of n h .alive);
-        reads = λ n k h p. reads-fact w n (of n h .reads) p k;
+        reads = λ h n k known begun p. reads-fact w n (of n begun .reads) p h known k;
         ends = λ n h. end-fact w n (of n h .end);
         alone =
             λ n m hn hm p q parents ends.
@@ -251,7 +277,10 @@ module _ (w : List ℕ) where
             (λ gt. absurd (alone-fact w m (of m hm .alone) n (hn .0, gt) q p (sym parents) (sym ends)))
             (λ e. e);
         pendings = λ n k h. pending-fact w n (of n h .pendings) k;
-        line = queue-facts w theQueue (and-right (long && few && counted && fold) (isSoundQueue w theQueue) t);
+        lines =
+            λ h known.
+            queue-facts w h
+            (all-kinds (isSoundQueue w) (and-right (long && few && counted && fold) (all (isSoundQueue w) kinds) t) h known);
       }
 
   tested-action : Sound w → (n : ℕ) → IsStarted w n → SoundAction w n
@@ -261,7 +290,7 @@ module _ (w : List ℕ) where
         state = s .states n h;
         below = lt-ltb _ _ (s .below n h);
         alive = alive-test w n (s .alive n h);
-        reads = reads-test w n (λ p k. s .reads n k h p);
+        reads = reads-test w n (λ p x known k. s .reads x n k known h p);
         end = end-test w n (s .ends n h);
         alone =
             alone-test w n (λ m lower p q parents ends. let same = s .alone n m h (omega arith) p q parents ends in omega arith);
@@ -272,12 +301,14 @@ module _ (w : List ℕ) where
   unfolding sound
   tested s =
       and-both
-      (and-both (and-both (and-both (eq-eqb _ _ (s .long)) (le-leb _ _ (s .few))) (le-leb _ _ (s .counted)))
+      (and-both
+      (and-both (and-both (eq-eqb _ _ (s .long)) (le-leb _ _ (s .few)))
+      (kinds-all (isCounted w) (λ h known. counted-test w h (s .counted h known))))
       (started-all w _ (λ n h. action-tested w n (tested-action s n h))))
-      (queue-tested w theQueue (s .line))
+      (kinds-all (isSoundQueue w) (λ h known. queue-tested w h (s .lines h known)))
 
--- ---- RULES 7.3: the counter is no higher than there can be actions
+-- ---- RULES 7.3: no counter is higher than there can be actions
 
-pub counter-at-most : (w : List ℕ) → Sound w → counter w ≤ mostActions
+pub counter-at-most : (w : List ℕ) → Sound w → (h : ℕ) → IsKind h → counter w h ≤ mostActions
 unfolding actions
-counter-at-most w s = omega (arith, s .counted, count-at-most (isCommitted w) 1 (started w), s .few)
+counter-at-most w s h known = omega (arith, s .counted h known, count-at-most (isCommittedOf w h) 1 (started w), s .few)

@@ -12,16 +12,18 @@ use lib.Dec.{eqb}
 use lib.ListN.{length}
 use Rattle.rules.specs.Range.{count}
 use Rattle.rules.specs.Card.{accountCount, IsCharge}
-use Rattle.rules.specs.Table.{hasEnd, actionWidth, width, tableLength, mostActions, live, committed, word, startedField, started, withStarted, counterField, counter, parentField, parentOf, withParent, stateField, stateOf, withState, endField, endTime, withEndTime, readField, readEntry, writeField, writeEntry, hasRead, readTime, hasWritten, pendingField, pendingWord, ownAddsField, ownAddsWord, withoutAdds, isLive, isCommitted, actions, isLiveChildOf, hasLiveChild}
-use Rattle.rules.specs.Queue.{theQueue, queueLengthField, isQueued}
-use Rattle.rules.specs.Sound.{queueNumbers, IsStarted, MayWait, SoundQueue, Sound}
+use Rattle.rules.specs.Kind.{IsKind, kindUnder}
+use Rattle.rules.specs.Table.{hasEnd, entryFields, subTimeFields, subTimeField, subTime, width, tableLength, mostActions, live, word, startedField, started, withStarted, counterField, counter, parentField, parentOf, kindOf, withParent, stateField, stateOf, withState, endField, endTime, withEndTime, readField, readEntry, writeField, writeEntry, hasRead, readTime, hasWritten, pendingField, pendingWord, ownAddsField, ownAddsWord, withoutAdds, isLive, isCommitted, actions, isLiveChildOf, hasLiveChild}
+use Rattle.rules.specs.Queue.{queueLengthField, isQueued, isWaiting}
+use Rattle.rules.specs.Sound.{isCommittedOf, queueNumbers, IsStarted, MayWait, SoundQueue, Sound}
 use Rattle.rules.specs.Step.{startTable}
 use Rattle.rules.proofs.Laws.Walking.{parent-known}
 use Rattle.rules.proofs.Laws.Tests.{and-left, and-fails-left, not-both}
 use Rattle.rules.proofs.Laws.Ranges.{not-any, not-any-at, count-agree, count-snoc}
+use Rattle.rules.proofs.Laws.Kinds.{kind-known, unqueued-in}
 use Rattle.rules.proofs.Laws.Queue.{SameLine, queue-kept}
 use Rattle.rules.proofs.Laws.Words.{withWord-length, word-same, word-other-row, word-other-field}
-use Rattle.rules.proofs.Laws.Sets.{withSets-length, withSets-other-row, withSets-other-field, withSets-read, withSets-write, withSets-pending, withSets-behind, withoutAdds-length, withoutAdds-other-row, withoutAdds-other-field, withoutAdds-behind, withoutAdds-same}
+use Rattle.rules.proofs.Laws.Sets.{withSets-length, withSets-other-row, withSets-other-field, withSets-read, withSets-time, withSets-write, withSets-pending, withSets-behind, withoutAdds-length, withoutAdds-other-row, withoutAdds-other-field, withoutAdds-behind, withoutAdds-same}
 use Rattle.rules.proofs.Sound.TableChanges.{writes-agree, live-uncommitted}
 
 module _ (w : List ℕ) (p : ℕ) where
@@ -52,13 +54,13 @@ module _ (w : List ℕ) (p : ℕ) where
 
   pub start-length : length (startTable w p) ≡ length w
   unfolding startTable
-  start-length = withSets-length filled new _ _ _ ∙ filled-length
+  start-length = withSets-length filled new _ _ _ _ ∙ filled-length
 
   -- a row that is neither the head nor the new action's
   pub start-keeps-row : (m g : ℕ) → g < width → 1 ≤ m → m ≢ new → word (startTable w p) m g ≡ word w m g
   unfolding startTable
   start-keeps-row m g h one ne =
-      withSets-other-row filled new _ _ _ m g h ne
+      withSets-other-row filled new _ _ _ _ m g h ne
       ∙ withoutAdds-other-row timed new m g h ne
       ∙ word-other-row stated new m endField g 0 (omega arith) h ne
       ∙ word-other-row parented new m stateField g live (omega arith) h ne
@@ -69,7 +71,7 @@ module _ (w : List ℕ) (p : ℕ) where
   head-from : (g : ℕ) → g < width → word (startTable w p) 0 g ≡ word headed 0 g
   unfolding startTable
   head-from g h =
-      withSets-other-row filled new _ _ _ 0 g h (λ z. omega arith)
+      withSets-other-row filled new _ _ _ _ 0 g h (λ z. omega arith)
       ∙ withoutAdds-other-row timed new 0 g h (λ z. omega arith)
       ∙ word-other-row stated new 0 endField g 0 (omega arith) h (λ z. omega arith)
       ∙ word-other-row parented new 0 stateField g live (omega arith) h (λ z. omega arith)
@@ -78,27 +80,31 @@ module _ (w : List ℕ) (p : ℕ) where
   start-head : (g : ℕ) → g < width → g ≢ startedField → word (startTable w p) 0 g ≡ word w 0 g
   start-head g h ne = head-from g h ∙ word-other-field w 0 startedField g new ne
 
-  pub start-counter : counter (startTable w p) ≡ counter w
-  start-counter = start-head counterField (omega arith) (λ z. omega arith)
+  pub start-counter : (h : ℕ) → IsKind h → counter (startTable w p) h ≡ counter w h
+  start-counter h known = start-head (counterField h) (omega arith) (λ z. omega arith)
 
-  -- the queue's words stay, also those in the new action's row
-  start-behind : (m g : ℕ) → 1 ≤ m → actionWidth ≤ g → g < width → word (startTable w p) m g ≡ word w m g
+  -- the queues' words stay, also those in the new action's row
+  start-behind : (m g : ℕ) → 1 ≤ m → entryFields ≤ g → g < subTimeFields → word (startTable w p) m g ≡ word w m g
   unfolding startTable
-  start-behind m g one far h = go (ℕ-discrete m new)
+  start-behind m g one far near = go (ℕ-discrete m new)
     where
       go : Dec (m ≡ new) → word (startTable w p) m g ≡ word w m g
-      go (no ne) = start-keeps-row m g h one ne
+      go (no ne) = start-keeps-row m g (omega arith) one ne
       go (yes e) =
           rw e
-          (withSets-behind filled new _ _ _ g (omega arith)
+          (withSets-behind filled new _ _ _ _ g (omega arith) near
           ∙ withoutAdds-behind timed new g far
           ∙ word-other-field stated new endField g 0 (λ z. omega arith)
           ∙ word-other-field parented new stateField g live (λ z. omega arith)
           ∙ word-other-field headed new parentField g p (λ z. omega arith)
-          ∙ word-other-row w 0 new startedField g new (omega arith) h (λ z. omega arith))
+          ∙ word-other-row w 0 new startedField g new (omega arith) (omega arith) (λ z. omega arith))
 
-  pub start-line : SameLine w (startTable w p) theQueue
-  start-line = record { sameLength = start-head (queueLengthField theQueue) (omega arith) (λ z. omega arith); sameEntries = start-behind }
+  pub start-line : (h : ℕ) → IsKind h → SameLine w (startTable w p) h
+  start-line h known =
+      record {
+        sameLength = start-head (queueLengthField h) (omega arith) (λ z. omega arith);
+        sameEntries = λ i g one first last. start-behind i g one (omega arith) (omega arith);
+      }
 
   module _ (long : length w ≡ tableLength) (room : started w < mostActions) where
     pub start-started : started (startTable w p) ≡ started w + 1
@@ -120,7 +126,7 @@ module _ (w : List ℕ) (p : ℕ) where
     pub start-parent : parentOf (startTable w p) new ≡ p
     unfolding startTable
     start-parent =
-        withSets-other-field filled new _ _ _ parentField (omega arith)
+        withSets-other-field filled new _ _ _ _ parentField (omega arith)
         ∙ withoutAdds-other-field timed new parentField (omega arith)
         ∙ word-other-field stated new endField parentField 0 (λ z. omega arith)
         ∙ word-other-field parented new stateField parentField live (λ z. omega arith)
@@ -129,7 +135,7 @@ module _ (w : List ℕ) (p : ℕ) where
     pub start-state : stateOf (startTable w p) new ≡ live
     unfolding startTable
     start-state =
-        withSets-other-field filled new _ _ _ stateField (omega arith)
+        withSets-other-field filled new _ _ _ _ stateField (omega arith)
         ∙ withoutAdds-other-field timed new stateField (omega arith)
         ∙ word-other-field stated new endField stateField 0 (λ z. omega arith)
         ∙ word-same parented new stateField live parented-long (omega arith) (omega arith)
@@ -137,33 +143,37 @@ module _ (w : List ℕ) (p : ℕ) where
     pub start-end : endTime (startTable w p) new ≡ 0
     unfolding startTable
     start-end =
-        withSets-other-field filled new _ _ _ endField (omega arith)
+        withSets-other-field filled new _ _ _ _ endField (omega arith)
         ∙ withoutAdds-other-field timed new endField (omega arith)
         ∙ word-same stated new endField 0 stated-long (omega arith) (omega arith)
 
     pub start-read : (k : ℕ) → k < accountCount → readEntry (startTable w p) new k ≡ 0
     unfolding startTable
-    start-read = withSets-read filled new _ _ _ filled-long (omega arith)
+    start-read = withSets-read filled new _ _ _ _ filled-long (omega arith)
+
+    pub start-time : (k : ℕ) → k < accountCount → subTime (startTable w p) new k ≡ 0
+    unfolding startTable
+    start-time = withSets-time filled new _ _ _ _ filled-long (omega arith)
 
     pub start-write : (k : ℕ) → k < accountCount → writeEntry (startTable w p) new k ≡ 0
     unfolding startTable
-    start-write = withSets-write filled new _ _ _ filled-long (omega arith)
+    start-write = withSets-write filled new _ _ _ _ filled-long (omega arith)
 
     pub start-pending : (k : ℕ) → IsCharge k → pendingWord (startTable w p) new k ≡ 0
     unfolding startTable
-    start-pending = withSets-pending filled new _ _ _ filled-long (omega arith)
+    start-pending = withSets-pending filled new _ _ _ _ filled-long (omega arith)
 
     pub start-own-adds : (k : ℕ) → IsCharge k → ownAddsWord (startTable w p) new k ≡ 0
     unfolding startTable
     start-own-adds k charge =
-        withSets-behind filled new _ _ _ (ownAddsField k) (omega arith)
+        withSets-behind filled new _ _ _ _ (ownAddsField k) (omega arith) (omega arith)
         ∙ withoutAdds-same timed new (withWord-length stated new endField 0 ∙ stated-long) (omega arith) k charge
 
 -- ---- the table stays sound
 
 module _
     (w : List ℕ) (p : ℕ) (s : Sound w) (room : started w < mostActions) (known : p ≤ started w) (alive : 1 ≤ p → isLive w p ≡ true)
-    (unqueued : isQueued w theQueue p ≡ false) where
+    (unqueued : isWaiting w p ≡ false) where
   -- a started action of the new table is one of the old, or the new one
   old-or-new : (m : ℕ) → IsStarted (startTable w p) m → IsStarted w m ⊎ (m ≡ new w p)
   old-or-new m h = go (ℕ-discrete m (started w + 1))
@@ -191,17 +201,19 @@ module _
       (P : ℕ → Type 0) → ((m : ℕ) → IsStarted w m → P m) → P (new w p) → (m : ℕ) → IsStarted (startTable w p) m → P m
   by-age P old fresh m h = ⊎-elim (old m) (λ e. rw e fresh) (old-or-new m h)
 
-  no-fewer-committed : counter w ≤ count (isCommitted (startTable w p)) (actions (startTable w p))
+  no-fewer-committed :
+      (h : ℕ) → IsKind h → counter w h ≤ count (isCommittedOf (startTable w p) h) (actions (startTable w p))
   unfolding actions
-  no-fewer-committed =
+  no-fewer-committed h kind =
       rw (
         start-started w p (s .long) room,
         add-one (started w),
-        count-snoc (isCommitted (startTable w p)) 1 (started w),
-        count-agree (isCommitted (startTable w p)) (isCommitted w) 1 (started w)
-            (λ m h. ap (λ x. eqb x committed) (old-row m stateField (omega arith) (omega arith))),
+        count-snoc (isCommittedOf (startTable w p) h) 1 (started w),
+        count-agree (isCommittedOf (startTable w p) h) (isCommittedOf w h) 1 (started w)
+            (λ m r.
+            rw (old-row m stateField (omega arith) (omega arith), old-row m parentField (omega arith) (omega arith)) refl),
       )
-      (omega (arith, s .counted))
+      (omega (arith, s .counted h kind))
 
   -- a parent that was 0 or live still is
   parent-alive : (q : ℕ) → q ≤ started w → (q ≡ 0) ⊎ (isLive w q ≡ true) → (q ≡ 0) ⊎ (isLive (startTable w p) q ≡ true)
@@ -216,36 +228,37 @@ module _
   no-read k hk r = not-both r (rw (start-read w p (s .long) room k hk))
 
   -- whoever waits is no parent of the new action, so it gets no live child
-  waiting-childless : (n : ℕ) → isQueued w theQueue n ≡ true → hasLiveChild (startTable w p) n ≡ false
+  waiting-childless : (h : ℕ) → IsKind h → (n : ℕ) → isQueued w h n ≡ true → hasLiveChild (startTable w p) n ≡ false
   unfolding hasLiveChild actions
-  waiting-childless n queued =
+  waiting-childless h kind n queued =
       not-any (isLiveChildOf (startTable w p) n) 1 (started (startTable w p))
       (λ m r.
       by-age (λ x. isLiveChildOf (startTable w p) n x ≡ false)
-      (λ x h.
-      rw (old-row x parentField h (omega arith), old-row x stateField h (omega arith))
-      (not-any-at (isLiveChildOf w n) 1 (started w) x (s .line .waits n queued .childless) (omega arith)))
+      (λ x begun.
+      rw (old-row x parentField begun (omega arith), old-row x stateField begun (omega arith))
+      (not-any-at (isLiveChildOf w n) 1 (started w) x (s .lines h kind .waits n queued .childless) (omega arith)))
       (rw (start-parent w p (s .long) room)
-      (and-fails-left (eqb p n) _ .1 (λ _. ne-eqb p n (λ same. not-both queued (rw (← same) unqueued)))))
+      (and-fails-left (eqb p n) _ .1 (λ _. ne-eqb p n (λ same. not-both queued (rw (← same) (unqueued-in w p unqueued h kind))))))
       m (omega arith))
 
-  waits-on : (n : ℕ) → isQueued w theQueue n ≡ true → MayWait (startTable w p) n
-  waits-on n queued =
-      let may = s .line .waits n queued in
+  waits-on : (h : ℕ) → IsKind h → (n : ℕ) → isQueued w h n ≡ true → MayWait (startTable w p) h n
+  waits-on h kind n queued =
+      let may = s .lines h kind .waits n queued in
       record {
         begun = omega (arith, may .begun, start-started w p (s .long) room);
         alive = rw (old-row n stateField (may .begun) (omega arith)) (may .alive);
-        childless = waiting-childless n queued;
+        kind = ap kindUnder (old-row n parentField (may .begun) (omega arith)) ∙ may .kind;
+        childless = waiting-childless h kind n queued;
       }
 
-  line-on : SoundQueue (startTable w p) theQueue
+  lines-on : (h : ℕ) → IsKind h → SoundQueue (startTable w p) h
   unfolding isQueued queueNumbers
-  line-on =
-      let q = queue-kept w (startTable w p) theQueue (omega arith) (start-line w p) in
+  lines-on h kind =
+      let q = queue-kept w (startTable w p) h kind (start-line w p h kind) in
       record {
-        short = rw (start-line w p .sameLength) (s .line .short);
-        waits = λ n queued. waits-on n (rw q at queued);
-        once = rw q (s .line .once);
+        short = rw (start-line w p h kind .sameLength) (s .lines h kind .short);
+        waits = λ n queued. waits-on h kind n (rw q at queued);
+        once = rw q (s .lines h kind .once);
       }
 
   pub start-keeps-sound : Sound (startTable w p)
@@ -255,7 +268,7 @@ module _
         few = rw (start-started w p (s .long) room) (omega arith);
         states =
             by-age _ (λ m h. rw (old-row m stateField h (omega arith)) (s .states m h)) (rw (start-state w p (s .long) room) refl);
-        counted = rw (start-counter w p) no-fewer-committed;
+        counted = λ h kind. rw (start-counter w p h kind) (no-fewer-committed h kind);
         below =
             by-age _ (λ m h. rw (old-row m parentField h (omega arith)) (s .below m h)) (rw (start-parent w p (s .long) room) (omega arith));
         alive =
@@ -265,14 +278,25 @@ module _
             (parent-alive (parentOf w m) (parent-known s m h) (s .alive m h (rw (old-row m stateField h (omega arith)) at l))))
             (λ l. rw (start-parent w p (s .long) room) (parent-alive p known (store-or-live (ℕ-discrete p 0))));
         reads =
-            λ m k h. by-age (λ x. isLive (startTable w p) x ≡ true → k < accountCount → hasRead (startTable w p) x k ≡ true → readTime (startTable w p) x k ≤ counter (startTable w p))
+            λ h m k kind begun.
+            by-age
+            (λ x.
+            isLive (startTable w p) x ≡ true → k < accountCount → hasRead (startTable w p) x k ≡ true →
+            readTime (startTable w p) h x k ≤ counter (startTable w p) h)
             (λ x hx l hk r.
-            rw (old-row x (readField k) hx (omega arith), start-counter w p)
-            (s .reads x k hx (rw (old-row x stateField hx (omega arith)) at l) hk (rw (old-row x (readField k) hx (omega arith)) at r)))
-            (λ l hk r. absurd (no-read k hk r)) m h;
+            rw (old-row x (readField k) hx (omega arith), old-row x (subTimeField k) hx (omega arith), start-counter w p h kind)
+            (s .reads h x k kind hx (rw (old-row x stateField hx (omega arith)) at l) hk
+            (rw (old-row x (readField k) hx (omega arith)) at r)))
+            (λ l hk r. absurd (no-read k hk r)) m begun;
         ends =
             by-age _
-            (λ m h e. rw (old-row m endField h (omega arith), start-counter w p) (s .ends m h (rw (old-end m h) at e)))
+            (λ m h e.
+            rw (
+              old-row m endField h (omega arith),
+              old-row m parentField h (omega arith),
+              start-counter w p (kindOf w m) (kind-known (parentOf w m)),
+            )
+            (s .ends m h (rw (old-end m h) at e)))
             (λ e. absurd (new-no-end e));
         alone = ends-alone;
         pendings =
@@ -280,7 +304,7 @@ module _
             (λ x hx none.
             rw (old-row x (pendingField k) hx (omega arith)) (s .pendings x k hx charge (rw (old-row x (writeField k) hx (omega arith)) at none)))
             (λ none. start-pending w p (s .long) room k charge) m h;
-        line = line-on;
+        lines = lines-on;
       }
     where
       store-or-live : Dec (p ≡ 0) → (p ≡ 0) ⊎ (isLive w p ≡ true)

@@ -13,14 +13,16 @@ use lib.Dec.{eqb}
 use lib.ListN.{length}
 use Rattle.rules.specs.Range.{count}
 use Rattle.rules.specs.Card.{accountCount, accounts, IsCharge}
-use Rattle.rules.specs.Table.{hasEnd, tableLength, actionWidth, width, live, committed, word, writeFields, startedField, counterField, parentField, stateField, endField, readField, readEntry, writeField, writeEntry, entered, hasWritten, hasWrites, pendingField, pendingWord, started, counter, parentOf, stateOf, endTime, hasRead, readTime, isLive, isCommitted, actions, isChildOf, isLiveChildOf, hasLiveChild}
-use Rattle.rules.specs.Queue.{theQueue, queueLengthField, isQueued}
-use Rattle.rules.specs.Sound.{hasState, queueNumbers, IsStarted, SoundQueue, Sound}
+use Rattle.rules.specs.Kind.{IsKind, kindUnder}
+use Rattle.rules.specs.Table.{hasEnd, tableLength, entryFields, width, live, committed, word, writeFields, startedField, counterField, parentField, stateField, endField, readField, readEntry, subTimeField, subTime, writeField, writeEntry, entered, hasWritten, hasWrites, pendingField, pendingWord, started, counter, parentOf, kindOf, stateOf, endTime, hasRead, readTime, isLive, isCommitted, actions, isChildOf, isLiveChildOf, hasLiveChild}
+use Rattle.rules.specs.Queue.{queueLengthField, isQueued}
+use Rattle.rules.specs.Sound.{isCommittedOf, hasState, queueNumbers, IsStarted, SoundQueue, Sound}
 use Rattle.rules.proofs.Laws.Tests.{and-left, and-right, and-both, not-both, false-of-not-true}
 use Rattle.rules.proofs.Laws.Ranges.{not-any, not-any-at, any-agree}
+use Rattle.rules.proofs.Laws.Kinds.{kind-known}
 use Rattle.rules.proofs.Laws.Queue.{SameLine, queue-kept}
 
--- ---- two facts that every event needs
+-- ---- facts that every event needs
 
 -- an action with the same write entries in two tables has writes in both or in neither
 pub writes-agree :
@@ -34,10 +36,11 @@ live-uncommitted w n l c = omega (arith, eqb-true (stateOf w n) live l, eqb-true
 
 -- ---- a change
 
--- The end of action m in the table v, after w: it ended before, or it is the one that ends now, at a time that is new.
+-- The end of action m in the table v, after w: it ended before, or it is the one that ends now, at a time of its kind that is new.
 abbrev pub Ended : List ℕ → List ℕ → ℕ → ℕ → Type 0
 Ended w v now m =
-    ((hasEnd w m ≡ true) × (endTime v m ≡ endTime w m)) ⊎ ((m ≡ now) × (endTime v m ≡ counter v) × (counter w < counter v))
+    ((hasEnd w m ≡ true) × (endTime v m ≡ endTime w m))
+    ⊎ ((m ≡ now) × (endTime v m ≡ counter v (kindOf w m)) × (counter w (kindOf w m) < counter v (kindOf w m)))
 
 -- Where charge account k isn't in action m's write set in v it wasn't in w, and m's pending sum is as it was.
 abbrev pub SumStays : List ℕ → List ℕ → ℕ → ℕ → Type 0
@@ -48,21 +51,27 @@ pub sum-stays :
     (w v : List ℕ) (m k : ℕ) → writeEntry v m k ≡ writeEntry w m k → pendingWord v m k ≡ pendingWord w m k → SumStays w v m k
 sum-stays w v m k entry sum none = (rw entry at none, sum)
 
+-- The reads of those who are live in v, of which w says who they are: no time of either kind is above that kind's counter.
+abbrev pub ReadsInTime : List ℕ → List ℕ → Type 0
+ReadsInTime w v =
+    (h m k : ℕ) → IsKind h → IsStarted w m → isLive v m ≡ true → k < accountCount → hasRead v m k ≡ true →
+    readTime v h m k ≤ counter v h
+
 -- The table v, after an event at table w in which action `now` may have ended.
 pub record TableChange (w v : List ℕ) (now : ℕ) : Type 0 where
   pub long : length v ≡ tableLength
   pub sameStarted : started v ≡ started w
-  pub rising : counter w ≤ counter v
-  pub counted : counter v ≤ count (isCommitted v) (actions v)
+  pub rising : (h : ℕ) → IsKind h → counter w h ≤ counter v h
+  pub counted : (h : ℕ) → IsKind h → counter v h ≤ count (isCommittedOf v h) (actions v)
   pub states : (m : ℕ) → IsStarted w m → hasState v m ≡ true
   pub parents : (m : ℕ) → IsStarted w m → parentOf v m ≡ parentOf w m
   -- nothing becomes live, and a parent that was live stays so while a child does
   pub wasLive : (m : ℕ) → IsStarted w m → isLive v m ≡ true → isLive w m ≡ true
   pub parentStays : (m : ℕ) → IsStarted w m → isLive v m ≡ true → isLive w (parentOf w m) ≡ true → 1 ≤ parentOf w m → isLive v (parentOf w m) ≡ true
-  pub reads : (m k : ℕ) → IsStarted w m → isLive v m ≡ true → k < accountCount → hasRead v m k ≡ true → readTime v m k ≤ counter v
+  pub reads : ReadsInTime w v
   pub ends : (m : ℕ) → IsStarted w m → hasEnd v m ≡ true → Ended w v now m
   pub pendings : (m k : ℕ) → IsStarted w m → IsCharge k → SumStays w v m k
-  pub line : SoundQueue v theQueue
+  pub lines : (h : ℕ) → IsKind h → SoundQueue v h
 
 module _ (w v : List ℕ) (now : ℕ) (s : Sound w) (c : TableChange w v now) where
   -- the started actions are the same
@@ -78,25 +87,29 @@ module _ (w v : List ℕ) (now : ℕ) (s : Sound w) (c : TableChange w v now) wh
       go q (yes e) = inl e
       go q (no ne) = inr (c .parentStays m (before m h) l q (omega arith))
 
-  end-in-time : (m : ℕ) → IsStarted v m → hasEnd v m ≡ true → (1 ≤ endTime v m) × (endTime v m ≤ counter v)
+  end-in-time : (m : ℕ) → IsStarted v m → hasEnd v m ≡ true → (1 ≤ endTime v m) × (endTime v m ≤ counter v (kindOf v m))
   end-in-time m h e =
-      ⊎-elim
-      (λ old. let was = s .ends m (before m h) (old .0) in omega (arith, c .rising, old .1))
+      rw (c .parents m (before m h))
+      (⊎-elim
+      (λ old. let was = s .ends m (before m h) (old .0) in omega (arith, c .rising (kindOf w m) (kind-known (parentOf w m)), old .1))
       (λ new. omega (arith, new .1, new .2))
-      (c .ends m (before m h) e)
+      (c .ends m (before m h) e))
 
   -- two ends with one time under one parent are one: an old time is at most the old counter, the new one above it
   end-alone :
       (n m : ℕ) → IsStarted v n → IsStarted v m → hasEnd v n ≡ true → hasEnd v m ≡ true → parentOf v m ≡ parentOf v n → endTime v m ≡ endTime v n → m ≡ n
   end-alone n m hn hm en em parents ends = go (c .ends n (before n hn) en) (c .ends m (before m hm) em)
     where
+      under : parentOf w m ≡ parentOf w n
+      under = sym (c .parents m (before m hm)) ∙ parents ∙ c .parents n (before n hn)
+
+      -- both are of the kind of n's parent's children
       go : Ended w v now n → Ended w v now m → m ≡ n
-      go (inl a) (inl b) =
-          s .alone n m (before n hn) (before m hm) (a .0) (b .0)
-          (sym (c .parents m (before m hm)) ∙ parents ∙ c .parents n (before n hn))
-          (sym (b .1) ∙ ends ∙ a .1)
-      go (inl a) (inr b) = absurd (omega (arith, s .ends n (before n hn) (a .0), a .1, b .1, b .2))
-      go (inr a) (inl b) = absurd (omega (arith, s .ends m (before m hm) (b .0), b .1, a .1, a .2))
+      go (inl a) (inl b) = s .alone n m (before n hn) (before m hm) (a .0) (b .0) under (sym (b .1) ∙ ends ∙ a .1)
+      go (inl a) (inr b) =
+          absurd (omega (arith, s .ends n (before n hn) (a .0), a .1, rw under at (b .1), rw under at (b .2)))
+      go (inr a) (inl b) =
+          absurd (omega (arith, rw under at (s .ends m (before m hm) (b .0)), b .1, a .1, a .2))
       go (inr a) (inr b) = b .0 ∙ sym (a .0)
 
   pending-written : (m k : ℕ) → IsStarted v m → IsCharge k → hasWritten v m k ≡ false → pendingWord v m k ≡ 0
@@ -112,14 +125,14 @@ module _ (w v : List ℕ) (now : ℕ) (s : Sound w) (c : TableChange w v now) wh
         counted = c .counted;
         below = λ m h. rw (c .parents m (before m h)) (s .below m (before m h));
         alive = parent-alive;
-        reads = λ m k h. c .reads m k (before m h);
+        reads = λ h m k known begun. c .reads h m k known (before m begun);
         ends = end-in-time;
         alone = end-alone;
         pendings = pending-written;
-        line = c .line;
+        lines = c .lines;
       }
 
--- ---- the queue
+-- ---- the queues
 
 -- nobody gets a live child where nobody becomes live and parents stay
 pub still-childless :
@@ -140,49 +153,50 @@ still-childless w v n same parents wasLive none =
 
 -- a queue that stays is sound where those who wait stay live
 pub line-stays :
-    (w v : List ℕ) → Sound w → SameLine w v theQueue → started v ≡ started w →
+    (w v : List ℕ) → Sound w → (h : ℕ) → IsKind h → SameLine w v h → started v ≡ started w →
     ((m : ℕ) → IsStarted w m → parentOf v m ≡ parentOf w m) →
     ((m : ℕ) → IsStarted w m → isLive v m ≡ true → isLive w m ≡ true) →
-    ((m : ℕ) → isQueued w theQueue m ≡ true → isLive v m ≡ true) → SoundQueue v theQueue
+    ((m : ℕ) → isQueued w h m ≡ true → isLive v m ≡ true) → SoundQueue v h
 unfolding isQueued queueNumbers
-line-stays w v s same starts parents wasLive stay =
-    let q = queue-kept w v theQueue (omega arith) same in
+line-stays w v s h known same starts parents wasLive stay =
+    let q = queue-kept w v h known same in
     record {
-      short = rw (same .sameLength) (s .line .short);
+      short = rw (same .sameLength) (s .lines h known .short);
       waits = λ n queued.
           let was = rw q at queued in
-          let may = s .line .waits n was in
+          let may = s .lines h known .waits n was in
           record {
             begun = rw starts (may .begun);
             alive = stay n was;
+            kind = ap kindUnder (parents n (may .begun)) ∙ may .kind;
             childless = still-childless w v n starts parents wasLive (may .childless);
           };
-      once = rw q (s .line .once);
+      once = rw q (s .lines h known .once);
     }
 
 -- .. so where no state changes
 pub quiet-line :
-    (w v : List ℕ) → Sound w → SameLine w v theQueue → started v ≡ started w → ((m : ℕ) → parentOf v m ≡ parentOf w m) →
-    ((m : ℕ) → stateOf v m ≡ stateOf w m) → SoundQueue v theQueue
-quiet-line w v s same starts parents states =
-    line-stays w v s same starts (λ m _. parents m) (λ m _ l. rw (states m) at l)
-    (λ m queued. rw (states m) (s .line .waits m queued .alive))
+    (w v : List ℕ) → Sound w → (h : ℕ) → IsKind h → SameLine w v h → started v ≡ started w →
+    ((m : ℕ) → parentOf v m ≡ parentOf w m) → ((m : ℕ) → stateOf v m ≡ stateOf w m) → SoundQueue v h
+quiet-line w v s h known same starts parents states =
+    line-stays w v s h known same starts (λ m _. parents m) (λ m _ l. rw (states m) at l)
+    (λ m queued. rw (states m) (s .lines h known .waits m queued .alive))
 
 -- A change that leaves the head, the parents and the states as they were.
 pub quiet-change :
-    (w v : List ℕ) (now : ℕ) → Sound w → length v ≡ length w → started v ≡ started w → counter v ≡ counter w →
-    ((m : ℕ) → parentOf v m ≡ parentOf w m) → ((m : ℕ) → stateOf v m ≡ stateOf w m) →
-    ((m k : ℕ) → IsStarted w m → isLive v m ≡ true → k < accountCount → hasRead v m k ≡ true → readTime v m k ≤ counter v) →
+    (w v : List ℕ) (now : ℕ) → Sound w → length v ≡ length w → started v ≡ started w →
+    ((h : ℕ) → IsKind h → counter v h ≡ counter w h) →
+    ((m : ℕ) → parentOf v m ≡ parentOf w m) → ((m : ℕ) → stateOf v m ≡ stateOf w m) → ReadsInTime w v →
     ((m : ℕ) → IsStarted w m → hasEnd v m ≡ true → Ended w v now m) →
-    ((m k : ℕ) → IsStarted w m → IsCharge k → SumStays w v m k) → SoundQueue v theQueue →
+    ((m k : ℕ) → IsStarted w m → IsCharge k → SumStays w v m k) → ((h : ℕ) → IsKind h → SoundQueue v h) →
     TableChange w v now
 unfolding actions
-quiet-change w v now s len start count parents states reads ends pendings line =
+quiet-change w v now s len start counters parents states reads ends pendings lines =
     record {
       long = len ∙ s .long;
       sameStarted = start;
-      rising = le-of-eq (sym count);
-      counted = rw (count, start, committed-kept) (s .counted);
+      rising = λ h known. le-of-eq (sym (counters h known));
+      counted = λ h known. rw (counters h known, start, committed-kept h) (s .counted h known);
       states = λ m h. rw (states m) (s .states m h);
       parents = λ m h. parents m;
       wasLive = λ m h l. rw (states m) at l;
@@ -190,17 +204,17 @@ quiet-change w v now s len start count parents states reads ends pendings line =
       reads = reads;
       ends = ends;
       pendings = pendings;
-      line = line;
+      lines = lines;
     }
   where
-    committed-kept : isCommitted v ≡ isCommitted w
-    committed-kept = fun-ext (λ m. ap (λ x. eqb x committed) (states m))
+    committed-kept : (h : ℕ) → isCommittedOf v h ≡ isCommittedOf w h
+    committed-kept h = fun-ext (λ m. rw (states m, parents m) refl)
 
 -- A change that enters account k in the write set of live action n, and may change n's pending sum for k.
 module _
     (w v : List ℕ) (n k : ℕ) (s : Sound w) (alive : isLive w n ≡ true) (len : length v ≡ length w)
     (fields : (m g : ℕ) → g < writeFields → word v m g ≡ word w m g)
-    (behind : (m g : ℕ) → actionWidth ≤ g → g < width → word v m g ≡ word w m g)
+    (behind : (m g : ℕ) → entryFields ≤ g → g < width → word v m g ≡ word w m g)
     (others : (m g : ℕ) → g < width → m ≢ n → word v m g ≡ word w m g)
     (enters : writeEntry v n k ≡ entered)
     (accounts-kept : (j : ℕ) → IsCharge j → j ≢ k → (writeEntry v n j ≡ writeEntry w n j) × (pendingWord v n j ≡ pendingWord w n j)) where
@@ -221,11 +235,12 @@ module _
             fields m endField (omega arith),
           )
 
-  reads-kept :
-      (m j : ℕ) → IsStarted w m → isLive v m ≡ true → j < accountCount → hasRead v m j ≡ true → readTime v m j ≤ counter v
-  reads-kept m j h l hj r =
+  reads-kept : ReadsInTime w v
+  reads-kept h m j known begun l hj r =
       let entry : readEntry v m j ≡ readEntry w m j = fields m (readField j) (omega arith) in
-      rw (entry, fields 0 counterField (omega arith)) (s .reads m j h (rw (state-kept m) at l) hj (rw entry at r))
+      let time : subTime v m j ≡ subTime w m j = behind m (subTimeField j) (omega arith) (omega arith) in
+      rw (entry, time, fields 0 (counterField h) (omega arith))
+      (s .reads h m j known begun (rw (state-kept m) at l) hj (rw entry at r))
 
   sums-stay : (m j : ℕ) → IsCharge j → SumStays w v m j
   sums-stay m j charge = go (ℕ-discrete m n) (ℕ-discrete j k)
@@ -239,10 +254,14 @@ module _
   pub entering-change : TableChange w v n
   entering-change =
       quiet-change w v n s len
-      (fields 0 startedField (omega arith)) (fields 0 counterField (omega arith))
+      (fields 0 startedField (omega arith)) (λ h known. fields 0 (counterField h) (omega arith))
       (λ m. fields m parentField (omega arith)) state-kept reads-kept
       (λ m h. end-kept m)
       (λ m j h. sums-stay m j)
-      (quiet-line w v s
-      (record { sameLength = fields 0 (queueLengthField theQueue) (omega arith); sameEntries = λ i g _. behind i g })
+      (λ h known.
+      quiet-line w v s h known
+      (record {
+        sameLength = fields 0 (queueLengthField h) (omega arith);
+        sameEntries = λ i g _ first last. behind i g (omega arith) (omega arith);
+      })
       (fields 0 startedField (omega arith)) (λ m. fields m parentField (omega arith)) state-kept)

@@ -17,9 +17,8 @@ use Rattle.rules.specs.Cause.{causeOf}
 use Rattle.rules.specs.Nearest.{version, readSum, IsNearest}
 use Rattle.rules.specs.Look.{lookCause, lookAt, look, lookedCard}
 use Rattle.rules.specs.Clash.{firstClash}
-use Rattle.rules.specs.Queue.{theQueue, isQueuedFailed}
 use Rattle.rules.specs.Serial.Told.{Told, itBegan, itRead, itWrote, itAdded, itCommitted, itLetLeave, itDidNothing, told}
-use Rattle.rules.specs.Step.{Outcome, start, readAnswer, read, write, judged, commit, add, enter, judgeLeft, judgeAnswer, judge, abort, step, leaversAt}
+use Rattle.rules.specs.Step.{Outcome, start, readAnswer, read, write, judged, commit, add, enter, isJudgedFailed, judgeLeft, judgeAnswer, judge, abort, step, leaversAt}
 use Rattle.rules.proofs.Laws.Tests.{not-both}
 use Rattle.rules.proofs.Laws.Allowed.{allowed-none}
 use Rattle.rules.proofs.Laws.EventCases.{AllowedIn, step-by-cause, act-by-kind}
@@ -61,7 +60,7 @@ module _ (s : Ledger) (e : Event) where
 
   judge-other : OfRead (judge s (e .number)) (judgeLeft s (e .number) .commits)
   unfolding judge
-  judge-other tells = absurd (not-both tells (judge-tells-no-read (isQueuedFailed (s .table) theQueue (e .number)) _ _))
+  judge-other tells = absurd (not-both tells (judge-tells-no-read (isJudgedFailed (s .table) (e .number)) _ _))
 
   of-read : OfRead (step s e) (leaversAt s e)
   unfolding start read write commit add enter abort

@@ -14,12 +14,11 @@ use Rattle.rules.specs.declared.Found.{Found}
 use Rattle.rules.specs.declared.Found.the-variants.{Nothing, At}
 use Rattle.rules.specs.Range.{any}
 use Rattle.rules.specs.Card.{isCharge, cardLength, shadowPlace}
-use Rattle.rules.specs.Queue.{theQueue, isQueuedFailed}
 use Rattle.rules.specs.Sound.{Sound}
 use Rattle.rules.specs.Event.{Event, commitCode, judgeCode, abortCode, isRead, isWrite, isCommit, isAbort, isAdd, isJudge}
 use Rattle.rules.specs.Clash.{firstClash}
 use Rattle.rules.specs.Ledger.{Ledger}
-use Rattle.rules.specs.Step.{start, readAnswer, read, write, add, judged, commit, enter, judgeLeft, judgeAnswer, judge, abortLeft, abort, act, step}
+use Rattle.rules.specs.Step.{start, readAnswer, read, write, add, judged, commit, enter, isJudgedFailed, judgeLeft, judgeAnswer, judge, abortLeft, abort, act, step}
 use Rattle.rules.specs.Run.{run}
 use Rattle.rules.specs.Touch.{isPut, isJoined, isCommitting, committersAt, mayChangeBase, mayChangeShadow}
 use Rattle.rules.proofs.Laws.Tests.{and-fails, or-inl, or-inr, or-neither, cond-holds}
@@ -66,7 +65,7 @@ act-not-refused s e a =
     (λ _. commit-not (firstClash (s .table) (e .number)))
     (λ _. refl)
     (λ _. refl)
-    (λ _. judged-not-refused (isQueuedFailed (s .table) theQueue (e .number)) _)
+    (λ _. judged-not-refused (isJudgedFailed (s .table) (e .number)) _)
     (λ _. refl)
   where
     commit-not : (found : Found) → isRefused (judged s (e .number) found .answer) ≡ false
@@ -81,7 +80,7 @@ refused-leaves s e c =
 -- ---- RULES 2.7: what may change, by who commits
 
 module _ (s : Ledger) (e : Event) where
-  -- of who leaves the queue at the event
+  -- of who leaves a queue at the event
   abbrev committers : List ℕ → List ℕ
   committers leavers = cond (isCommitting (s .table) e) (e .number ∷ []) leavers
 

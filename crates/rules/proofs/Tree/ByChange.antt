@@ -1,23 +1,27 @@
 -- What an event does to the sums of a charge account: it starts an action, or it adds, or it is a row of changes each of which
 -- is calm or commits an action. Assumes nothing.
 use Prim.Native.Nat.{ℕ, _<_}
+use native.Mathlib.Omega.{arith}
 use mathlib.Core.Path.{_≡_, refl}
 use mathlib.Core.Bool.{Bool, true, false}
 use mathlib.Core.List.{List}
 use Rattle.rules.specs.declared.Found.{Found}
 use Rattle.rules.specs.declared.Found.the-variants.{Nothing, At}
 use Rattle.rules.specs.Card.{firstCharge, IsCharge}
-use Rattle.rules.specs.Table.{parentOf}
-use Rattle.rules.specs.Queue.{theQueue, isQueuedFailed, isHeadReady}
+use Rattle.rules.specs.Table.{parentOf, kindOf}
+use Rattle.rules.specs.Kind.{IsKind, topKind, subKind}
+use Rattle.rules.specs.Queue.{isHeadReady}
 use Rattle.rules.specs.Event.{Event}
 use Rattle.rules.specs.Ledger.{Ledger, ledgerOf, withTable}
 use Rattle.rules.specs.Cause.{isCommitOutside}
 use Rattle.rules.specs.Commit.{committedUnder}
-use Rattle.rules.specs.Step.{startTable, start, read, write, add, judged, takenOut, finished, leave, enter, revealed, judgeLeft, judge, dropped, abortLeft, abort, step, headIn, headOut, isHeadOutside, headLeft}
+use Rattle.rules.specs.Step.{startTable, start, read, write, add, judged, takenOut, finished, leave, leaveBoth, enterTable, enter, isJudgedFailed, revealed, judgeLeft, judge, outOfBoth, dropped, abortLeft, abort, step, headIn, headOut, isHeadOutside, headLeft}
+use Rattle.rules.proofs.Laws.Kinds.{kind-known}
 use Rattle.rules.proofs.Laws.Permitted.{Startable, Touchable, Committable, Judgeable, step-by-kind}
-use Rattle.rules.proofs.Sound.QueueChanges.{out-committable}
+use Rattle.rules.proofs.Sound.QueueChanges.{without-change, out-committable}
 use Rattle.rules.proofs.Sound.Leaving.{head-committable}
-use Rattle.rules.proofs.Demand.Proper.{Proper, out-proper, revealed-proper, dropped-proper, head-out-proper, leave-by-proper-heads}
+use Rattle.rules.proofs.Demand.Proper.{Proper, left-proper, out-proper, revealed-proper, dropped-proper, head-out-proper, leave-by-proper-heads, leave-proper}
+use Rattle.rules.proofs.Demand.Views.{change-keeps-proper}
 use Rattle.rules.proofs.Tree.Quiet.{Quiet, Calm}
 use Rattle.rules.proofs.Tree.CalmEvents.{read-calm, write-calm, fail-calm, abort-calm, tail-calm, ready-calm, out-calm}
 use Rattle.rules.proofs.Tree.Adding.{add-quiet}
@@ -29,7 +33,7 @@ module _
     (commits :
     (s : Ledger) → Proper s → (n : ℕ) → Committable (s .table) n → isCommitOutside (s .table) (s .base) n Nothing ≡ false →
     P s → P (committedUnder s n (parentOf (s .table) n))) where
-  -- ---- those who leave the queue
+  -- ---- those who leave a queue
 
   finished-keeps :
       (s : Ledger) → Proper s → (n : ℕ) → Committable (s .table) n → (b : Bool) →
@@ -38,18 +42,31 @@ module _
   finished-keeps s proper n may true _ was = calms s _ (s .shadow) (fail-calm (proper .sound) n k charge may) was
   finished-keeps s proper n may false fits was = commits s proper n may fits was
 
-  out-keeps : (s : Ledger) → Proper s → (n : ℕ) → P s → P (takenOut s theQueue n)
-  out-keeps s proper n was = calms s _ (s .shadow) (out-calm (proper .sound) n k charge) was
+  module _ (h : ℕ) (known : IsKind h) where
+    out-keeps : (s : Ledger) → Proper s → (n : ℕ) → P s → P (takenOut s h n)
+    out-keeps s proper n was = calms s _ (s .shadow) (out-calm (proper .sound) n k charge h known) was
 
-  head-keeps : (s : Ledger) → Proper s → isHeadReady (s .table) theQueue ≡ true → P s → P (headLeft theQueue s)
-  head-keeps s proper ready was =
-      finished-keeps (headOut theQueue s) (head-out-proper s proper ready) (headIn theQueue s) (head-committable s (proper .sound) ready)
-      (isHeadOutside theQueue s) refl (out-keeps s proper (headIn theQueue s) was)
+    head-keeps : (s : Ledger) → Proper s → isHeadReady (s .table) h ≡ true → P s → P (headLeft h s)
+    head-keeps s proper ready was =
+        finished-keeps (headOut h s) (head-out-proper h known s proper ready) (headIn h s)
+        (head-committable h known s (proper .sound) ready)
+        (isHeadOutside h s) refl (out-keeps s proper (headIn h s) was)
 
-  leave-keeps : (s : Ledger) → Proper s → P s → P (leave theQueue s .after)
-  leave-keeps =
-      leave-by-proper-heads (λ s left. P s → P (left .after)) (λ s proper was. was)
-      (λ s proper ready rest later was. later (head-keeps s proper ready was))
+    leave-keeps : (s : Ledger) → Proper s → P s → P (leave h s .after)
+    leave-keeps =
+        leave-by-proper-heads h known (λ s left. P s → P (left .after)) (λ s proper was. was)
+        (λ s proper ready rest later was. later (head-keeps s proper ready was))
+
+  both-leave-keeps : (s : Ledger) → Proper s → P s → P (leaveBoth s .after)
+  unfolding leaveBoth
+  both-leave-keeps s proper was =
+      leave-keeps subKind (omega arith) _ (leave-proper topKind (omega arith) s proper) (leave-keeps topKind (omega arith) s proper was)
+
+  both-out-keeps : (s : Ledger) → Proper s → (n : ℕ) → P s → P (withTable s (outOfBoth (s .table) n))
+  unfolding outOfBoth
+  both-out-keeps s proper n was =
+      let half = change-keeps-proper proper (without-change (proper .sound) topKind (omega arith) n n) in
+      out-keeps subKind (omega arith) _ half n (out-keeps topKind (omega arith) s proper n was)
 
   -- ---- the events that are a row of such changes
 
@@ -68,29 +85,36 @@ module _
     judges j Nothing fits = commits s proper n j fits was
     judges j (At t i) fits = calms s _ (s .shadow) (fail-calm (proper .sound) n k charge j) was
 
+    -- its queue
+    abbrev h : ℕ
+    h = kindOf (s .table) n
+
+    known : IsKind h
+    known = kind-known (parentOf (s .table) n)
+
     enters : Committable (s .table) n → P (enter s n .after)
-    unfolding enter
-    enters free = calms s _ (s .shadow) (tail-calm (proper .sound) n k charge free _) was
+    unfolding enter enterTable
+    enters free = calms s _ (s .shadow) (tail-calm (proper .sound) n k charge h known refl free _) was
 
     revealed-keeps : Judgeable (s .table) n → (b : Bool) → P (revealed s n b)
     unfolding revealed
     revealed-keeps j true =
-        let free = out-committable (proper .sound) n (j .queued) in
-        calms (takenOut s theQueue n) _ (s .shadow) (fail-calm (out-proper proper n .sound) n k charge free) (out-keeps s proper n was)
-    revealed-keeps j false = calms s _ (s .shadow) (ready-calm (proper .sound) n k charge) was
+        let free = out-committable (proper .sound) h known n (j .queued) in
+        calms (takenOut s h n) _ (s .shadow) (fail-calm (left-proper proper n .sound) n k charge free) (out-keeps h known s proper n was)
+    revealed-keeps j false = calms s _ (s .shadow) (ready-calm (proper .sound) n k charge h known) was
 
     reveals : Judgeable (s .table) n → P (judge s n .after)
     unfolding judge judgeLeft
     reveals j =
-        let failed = isQueuedFailed (s .table) theQueue n in
-        leave-keeps _ (revealed-proper proper n j failed) (revealed-keeps j failed)
+        let failed = isJudgedFailed (s .table) n in
+        leave-keeps h known _ (revealed-proper proper n j failed) (revealed-keeps j failed)
 
     aborts : P (abort s n .after)
     unfolding abort abortLeft dropped
     aborts =
-        leave-keeps _ (dropped-proper proper n)
-        (calms (takenOut s theQueue n) _ (s .shadow) (abort-calm (out-proper proper n .sound) n k charge)
-        (out-keeps s proper n was))
+        both-leave-keeps _ (dropped-proper proper n)
+        (calms (withTable s (outOfBoth (s .table) n)) _ (s .shadow) (abort-calm (out-proper proper n .sound) n k charge)
+        (both-out-keeps s proper n was))
 
   -- ---- any event: Q holds after it where P does, and after a start and an add
   pub step-by-change :

@@ -1,4 +1,4 @@
--- A read, a write, a failed commit, an abort and a change of the queue start and commit nothing, and change no sum. Assumes
+-- A read, a write, a failed commit, an abort and a change of a queue start and commit nothing, and change no sum. Assumes
 -- nothing.
 use Prim.Native.Nat.{ℕ, _<_}
 use native.Mathlib.Omega.{arith}
@@ -7,8 +7,9 @@ use mathlib.Core.Logic.{inl, inr, _≢_}
 use mathlib.Core.List.{List}
 use lib.Dec.{eqb}
 use Rattle.rules.specs.Card.{firstCharge, IsCharge}
-use Rattle.rules.specs.Table.{actionWidth, width, word, committed, aborted, withState, startedField, parentField, stateField, pendingField, ownAddsField, isCommitted}
-use Rattle.rules.specs.Queue.{theQueue, withTail, withReady, withoutBelow}
+use Rattle.rules.specs.Kind.{IsKind}
+use Rattle.rules.specs.Table.{IsActionField, width, word, committed, aborted, withState, startedField, parentField, kindOf, stateField, pendingField, ownAddsField, isCommitted}
+use Rattle.rules.specs.Queue.{withTail, withReady, withoutBelow}
 use Rattle.rules.specs.Sound.{IsStarted, Sound}
 use Rattle.rules.specs.Step.{readTable, writeTable, abortTable}
 use Rattle.rules.proofs.Laws.Permitted.{Touchable, Committable}
@@ -26,11 +27,11 @@ module _ {w : List ℕ} (s : Sound w) (n k : ℕ) (charge : IsCharge k) where
   read-calm j p =
       let kept = read-keeps-field w n j (p .account) in
       record {
-        starts = kept 0 startedField (omega arith) (λ z. omega arith);
-        parents = λ m h. kept m parentField (omega arith) (λ z. omega arith);
-        states = λ m h. ap (λ x. eqb x committed) (kept m stateField (omega arith) (λ z. omega arith));
-        pendings = λ m h. kept m (pendingField k) (omega arith) (λ z. omega (arith, p .account));
-        owns = λ m h. kept m (ownAddsField k) (omega arith) (λ z. omega (arith, p .account));
+        starts = kept 0 startedField (omega arith) (λ z. omega arith) (λ z. omega arith);
+        parents = λ m h. kept m parentField (omega arith) (λ z. omega arith) (λ z. omega arith);
+        states = λ m h. ap (λ x. eqb x committed) (kept m stateField (omega arith) (λ z. omega arith) (λ z. omega arith));
+        pendings = λ m h. kept m (pendingField k) (omega arith) (λ z. omega (arith, p .account)) (λ z. omega (arith, p .account));
+        owns = λ m h. kept m (ownAddsField k) (omega arith) (λ z. omega (arith, p .account)) (λ z. omega (arith, p .account));
       }
 
   pub write-calm : (j : ℕ) → Touchable w n j → j < firstCharge → Calm w (writeTable w n j) k
@@ -64,23 +65,24 @@ module _ {w : List ℕ} (s : Sound w) (n k : ℕ) (charge : IsCharge k) where
   pub abort-calm : Calm w (abortTable w n) k
   abort-calm = states-calm (abort-keeps-field w n) (abort-keeps-committed w n s)
 
-  -- ---- the queue
+  -- ---- a queue
 
-  queue-calm : {v : List ℕ} → ((m g : ℕ) → g < actionWidth → OffLength m g → word v m g ≡ word w m g) → Calm w v k
-  queue-calm kept =
-      record {
-        starts = kept 0 startedField (omega arith) (inr (λ z. omega arith));
-        parents = λ m h. kept m parentField (omega arith) (inl (h .0));
-        states = λ m h. ap (λ x. eqb x committed) (kept m stateField (omega arith) (inl (h .0)));
-        pendings = λ m h. kept m (pendingField k) (omega arith) (inl (h .0));
-        owns = λ m h. kept m (ownAddsField k) (omega arith) (inl (h .0));
-      }
+  module _ (h : ℕ) (known : IsKind h) where
+    queue-calm : {v : List ℕ} → ((m g : ℕ) → IsActionField g → OffLength h m g → word v m g ≡ word w m g) → Calm w v k
+    queue-calm kept =
+        record {
+          starts = kept 0 startedField (inl (omega arith)) (inr (λ z. omega arith));
+          parents = λ m begun. kept m parentField (inl (omega arith)) (inl (begun .0));
+          states = λ m begun. ap (λ x. eqb x committed) (kept m stateField (inl (omega arith)) (inl (begun .0)));
+          pendings = λ m begun. kept m (pendingField k) (inl (omega arith)) (inl (begun .0));
+          owns = λ m begun. kept m (ownAddsField k) (inl (omega arith)) (inl (begun .0));
+        }
 
-  pub tail-calm : Committable w n → (verdict : ℕ) → Calm w (withTail w theQueue n verdict) k
-  tail-calm free verdict = queue-calm (tail-keeps s n free verdict)
+    pub tail-calm : kindOf w n ≡ h → Committable w n → (verdict : ℕ) → Calm w (withTail w h n verdict) k
+    tail-calm kind free verdict = queue-calm (tail-keeps s h known n kind free verdict)
 
-  pub ready-calm : Calm w (withReady w theQueue n) k
-  ready-calm = queue-calm (ready-keeps s n)
+    pub ready-calm : Calm w (withReady w h n) k
+    ready-calm = queue-calm (ready-keeps s h known n)
 
-  pub out-calm : Calm w (withoutBelow w theQueue n) k
-  out-calm = queue-calm (without-keeps s n)
+    pub out-calm : Calm w (withoutBelow w h n) k
+    out-calm = queue-calm (without-keeps s h known n)

@@ -35,7 +35,7 @@ newOver base shadow = record { table = newTable; base = base; shadow = shadow }
 abbrev pub answersTo : List ℕ → List ℕ → List Event → List Answer
 answersTo base shadow es = run (newOver base shadow) es .answers
 
--- RULES 6.1: who commits there by leaving the queue, event by event, and what the serial run is told so
+-- RULES 6.1: who commits there by leaving a queue, event by event, and what the serial run is told so
 abbrev pub leaversIn : List ℕ → List ℕ → List Event → List (List ℕ)
 leaversIn base shadow es = run (newOver base shadow) es .leavers
 

@@ -1,4 +1,4 @@
--- RULES 6.1 and 6.2: what the serial run is told of an event: what its answer says and, where the head of the queue was tried,
+-- RULES 6.1 and 6.2: what the serial run is told of an event: what its answer says and, where the head of a queue was tried,
 -- who is fed as having committed by leaving. Blocks and R go by this alone, so by the answer's kind and never by the event's
 -- code. Assumes nothing.
 use Prim.Native.Nat.{ℕ}
@@ -11,7 +11,7 @@ pub data Told : Type 0 where
   itBegan : (n : ℕ) → Told
   -- the action of the event's number read, wrote, added, committed
   itRead itWrote itAdded itCommitted : Told
-  -- the head of the queue was tried, and these committed as they left it, in this order
+  -- the head of a queue was tried, or of both, and these committed as they left, in this order
   itLetLeave : (leavers : List ℕ) → Told
   -- nothing took place that a block holds
   itDidNothing : Told

@@ -1,9 +1,10 @@
--- `commit_cause` meets its contract: the causes of a busy action come first, and then 18 where the queue isn't empty.
+-- `commit_cause` meets its contract: the causes of a busy action come first, and then 18 where the queue of its kind isn't empty.
 -- Assumes nothing.
 use native.Mathlib.Omega.{arith}
 use mathlib.Core.Path.{sym, _∙_}
 use borrow.Author.Needs.{needs}
 use borrow.Author.Tests.{eq-eqb, ne-eqb}
+use Rattle.queue.proofs.OwnQueue.{own-kind}
 use Rattle.causes.proofs.Grouped.{busy-refused, busy-passed}
 use Rattle.causes.proofs.busy.commit_cause.Statement.{statement}
 use Rattle.causes.proofs.busy.commit_cause.Tie as tie
@@ -16,19 +17,34 @@ returns c =
     let asked = c .before .busy-cause .ensures in
     asked ∙ sym (busy-refused _ _ (λ none. c .if1 .taken (asked ∙ none)))
 
+kind-of-requires : tie.Need-kind-of-requires
+kind-of-requires c κs = search needs
+
 queue-length-requires : tie.Need-queue-length-requires
-queue-length-requires c κs = search needs
+queue-length-requires c κs =
+    let start = c .before .before .before .before in
+    (search needs, own-kind (start .args .table .now) (start .args .number) (c .kind-of .ensures))
 
 returns-2 : tie.Need-returns-2
 returns-2 c =
-    let passed = busy-passed _ _ (sym (c .before .before .before .busy-cause .ensures) ∙ c .before .before .if1 .left) in
-    sym (passed ∙ rw (← c .before .queue-length .ensures, ne-eqb (c .before .queue-length .result) 0 (λ none. omega arith)))
+    let kind = c .before .before in
+    let passed = busy-passed _ _ (sym (kind .before .before .busy-cause .ensures) ∙ kind .before .if1 .left) in
+    sym (passed ∙ rw (
+      ← kind .kind-of .ensures,
+      ← c .before .queue-length .ensures,
+      ne-eqb (c .before .queue-length .result) 0 (λ none. omega arith),
+    ))
 
 returns-3 : tie.Need-returns-3
 returns-3 c =
-    let passed = busy-passed _ _ (sym (c .before .before .before .busy-cause .ensures) ∙ c .before .before .if1 .left) in
-    sym (passed ∙ rw (← c .before .queue-length .ensures, eq-eqb (c .before .queue-length .result) 0 (omega arith)))
+    let kind = c .before .before in
+    let passed = busy-passed _ _ (sym (kind .before .before .busy-cause .ensures) ∙ kind .before .if1 .left) in
+    sym (passed ∙ rw (
+      ← kind .kind-of .ensures,
+      ← c .before .queue-length .ensures,
+      eq-eqb (c .before .queue-length .result) 0 (omega arith),
+    ))
 
 pub commit-cause-spec : {M : Type 1} → statement M
 commit-cause-spec =
-    tie.close (tie.spec busy-cause-requires returns queue-length-requires returns-2 returns-3)
+    tie.close (tie.spec busy-cause-requires returns kind-of-requires queue-length-requires returns-2 returns-3)

@@ -4,10 +4,11 @@ use native.Mathlib.Omega.{arith}
 use mathlib.Core.Path.{ap, _∙_}
 use borrow.Author.Needs.{needs}
 use borrow.Author.Tests.{eq-eqb, ne-eqb}
-use Rattle.rules.specs.Table.{counter}
+use Rattle.rules.specs.Table.{counter, parentOf, kindOf}
 use Rattle.rules.specs.Ledger.{Ledger}
 use Rattle.rules.specs.Commit.{commitTime, committedUnder}
-use Rattle.rules.proofs.Copies.Whole.{copied-counter, copied-time}
+use Rattle.rules.proofs.Laws.Kinds.{kind-known}
+use Rattle.rules.proofs.Copies.Whole.{copied-own-counter, copied-time}
 use Rattle.rules.proofs.Sound.Soundness.{counter-at-most}
 use Rattle.commits.proofs.commit.pass.Statement.{statement}
 use Rattle.commits.proofs.commit.pass.Tie as tie
@@ -34,8 +35,11 @@ end-requires : tie.Need-end-requires
 end-requires c κs =
     let copied = c .before .before .before .before .before .before .before in
     let start = copied .before .before .before .before .before .before .before .before .before in
-    let kept = ap (λ (t : Ledger). counter (t .table)) (copied .copy-down .ensures) ∙ copied-counter _ _ _ in
-    (search needs, rw kept (counter-at-most (start .args .table .now) (start .pre .0)))
+    let n = start .args .n in
+    let kept =
+    ap (λ (t : Ledger). counter (t .table) (kindOf (t .table) n)) (copied .copy-down .ensures) ∙ copied-own-counter _ _ _ in
+    let known = kind-known (parentOf (start .args .table .now) n) in
+    (search needs, rw kept (counter-at-most (start .args .table .now) (start .pre .0) _ known))
 
 join-sets-requires : tie.Need-join-sets-requires
 join-sets-requires c κs =

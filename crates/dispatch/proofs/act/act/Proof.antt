@@ -46,7 +46,7 @@ may-turn c other =
     let own = own-number c other in
     record {
       enters = λ is. (
-        record { begun = own; alive = event .alive (own .0); childless = event .childless (rw is refl) },
+        record { begun = own; alive = event .alive (own .0); kind = refl; childless = event .childless (rw is refl) },
         event .unqueued (rw is refl),
       );
       judges = λ is. event .judgeDue (eq-eqb _ judgeCode is) .0;

@@ -1,12 +1,11 @@
--- `enter` leaves the table as it was where the account is in the read set or the reader has a card for it, and else puts the
--- counter as the read time. The counter of a sound table is at most 64, so its entry fits a word. Assumes nothing.
+-- `enter` leaves the table as it was where the account is in the read set or the reader has a card for it, and else puts both
+-- counters as the read's times. The counters of a sound table are at most 64, so an entry fits a word. Assumes nothing.
 use native.Mathlib.Omega.{arith}
-use mathlib.Core.Path.{_≡_, refl, sym, ap, _∙_}
+use mathlib.Core.Path.{_≡_, refl, sym, _∙_}
 use mathlib.Core.Logic.{⊎-elim}
-use mathlib.Core.Bool.{true, false, not}
-use lib.Dec.{eqb}
+use mathlib.Core.Bool.{true, false}
 use borrow.Author.Needs.{needs}
-use borrow.Author.Tests.{ne-eqb}
+use Rattle.rules.specs.Kind.{topKind}
 use Rattle.rules.specs.Table.{hasRead}
 use Rattle.rules.specs.Step.{leavesReadSet, readTable}
 use Rattle.rules.proofs.Laws.Tests.{or-inl, or-inr}
@@ -14,8 +13,8 @@ use Rattle.rules.proofs.Sound.Soundness.{counter-at-most}
 use Rattle.events.proofs.read.enter.Statement.{statement}
 use Rattle.events.proofs.read.enter.Tie as tie
 
-read-entry-requires : tie.Need-read-entry-requires
-read-entry-requires c κs = search needs
+has-read-requires : tie.Need-has-read-requires
+has-read-requires c κs = search needs
 
 has-card-requires : tie.Need-has-card-requires
 has-card-requires c κs = search needs
@@ -31,7 +30,8 @@ entering :
 entering c =
     let asked = c .before .before in
     let bare = sym (asked .has-card .ensures) ∙ c .if2 .left in
-    rw (← asked .before .before .read-entry .ensures, c .before .if1 .left) bare
+    let unread = sym (asked .before .before .has-read .ensures) ∙ c .before .if1 .left in
+    rw unread bare
 
 -- where it holds one of the two is so
 left-alone :
@@ -41,9 +41,8 @@ left-alone :
 left-alone c =
     let asked = c .before in
     let args = asked .before .before .before .before .before .args in
-    let entry = asked .before .before .read-entry in
     ⊎-elim
-    (λ read. or-inl _ (ap (λ e. not (eqb e 0)) (sym (entry .ensures)) ∙ ap not (ne-eqb (entry .result) 0 (read .taken))))
+    (λ read. or-inl _ (sym (asked .before .before .has-read .ensures) ∙ read .taken))
     (λ unread. or-inr (hasRead (args .table .now) (args .n) (args .k)) (sym (asked .has-card .ensures) ∙ unread .1 .taken))
     (c .if1 .came)
 
@@ -51,16 +50,10 @@ returns : tie.Need-returns
 unfolding readTable
 returns c = rw (left-alone c) refl
 
-counter-requires : tie.Need-counter-requires
-counter-requires c κs = search needs
-
-add-set-read-entry : tie.Need-add-set-read-entry
-add-set-read-entry c =
-    let start = c .before .before .before .before .before .before .before .before .before .before in
-    omega (arith, c .before .counter .ensures, counter-at-most (start .args .table .now) (start .pre .sound))
-
-set-read-entry-requires : tie.Need-set-read-entry-requires
-set-read-entry-requires c κs = search needs
+set-read-now-requires : tie.Need-set-read-now-requires
+set-read-now-requires c κs =
+    let start = c .before .before .before .before .before .before .before .before in
+    (search needs, (search needs, counter-at-most (start .args .table .now) (start .pre .sound) topKind (omega arith)))
 
 same-length-2 : tie.Need-same-length-2
 same-length-2 c = search needs
@@ -69,19 +62,16 @@ returns-2 : tie.Need-returns-2
 unfolding readTable
 returns-2 c =
     let put = c .before .before in
-    let counted = put .before .before in
-    rw (entering (counted .before .before), ← counted .counter .ensures) (put .set-read-entry .ensures)
+    rw (entering (put .before .before)) (put .set-read-now .ensures)
 
 pub enter-spec : {M : Type 1} → statement M
 enter-spec =
     tie.close
     (tie.spec
-    read-entry-requires
+    has-read-requires
     has-card-requires
     same-length
     returns
-    counter-requires
-    add-set-read-entry
-    set-read-entry-requires
+    set-read-now-requires
     same-length-2
     returns-2)

@@ -19,8 +19,8 @@ set-parent-requires c κs = search needs
 set-state-requires : tie.Need-set-state-requires
 set-state-requires c κs = search needs
 
-set-end-time-requires : tie.Need-set-end-time-requires
-set-end-time-requires c κs = search needs
+clear-end-requires : tie.Need-clear-end-requires
+clear-end-requires c κs = search needs
 
 clear-own-adds-requires : tie.Need-clear-own-adds-requires
 clear-own-adds-requires c κs = search needs
@@ -42,7 +42,7 @@ returns c =
     let counted = placed .before .before .before .before in
     let last = counted .before .before .last-start .ensures in (
       rw last,
-      rw (← last, ← counted .set-last-start .ensures, ← placed .set-parent .ensures, ← lives .set-state .ensures, ← ended .set-end-time .ensures, ← unadded .clear-own-adds .ensures)
+      rw (← last, ← counted .set-last-start .ensures, ← placed .set-parent .ensures, ← lives .set-state .ensures, ← ended .clear-end .ensures, ← unadded .clear-own-adds .ensures)
           (emptied .clear-sets .ensures),
     )
 
@@ -55,7 +55,7 @@ start-spec =
     set-last-start-requires
     set-parent-requires
     set-state-requires
-    set-end-time-requires
+    clear-end-requires
     clear-own-adds-requires
     clear-sets-requires
     same-length

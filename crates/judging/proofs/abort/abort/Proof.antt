@@ -1,9 +1,10 @@
--- `abort` answers and leaves what the rule's abort does: whom it reaches is taken out of the queue and then aborted, each of which
--- keeps the table sound, and then the head is tried. Assumes nothing.
+-- `abort` answers and leaves what the rule's abort does: whom it reaches is taken out of the queues and then aborted, each of which
+-- keeps the table sound, and then the heads are tried. Assumes nothing.
 use borrow.Author.Needs.{needs}
 use Rattle.rules.specs.Ledger.{Ledger, ledgerOf}
 use Rattle.rules.specs.Step.{dropped, abortLeft, abort}
-use Rattle.rules.proofs.Sound.Kept.{out-sound, dropped-sound}
+use Rattle.rules.proofs.Sound.TakingOut.{out-sound}
+use Rattle.rules.proofs.Sound.Kept.{dropped-sound}
 use Rattle.judging.proofs.Leaving.{out-count}
 use Rattle.judging.proofs.abort.abort.Statement.{statement}
 use Rattle.judging.proofs.abort.abort.Tie as tie
@@ -12,25 +13,23 @@ use Rattle.judging.proofs.abort.abort.Tie as tie
 abbrev ledgerAt : tie.Start → Ledger
 ledgerAt c = ledgerOf (c .args .table .now) (c .args .base .now) (c .args .shadow .now)
 
-take-out-requires : tie.Need-take-out-requires
-take-out-requires c κs =
-    let start = c .before .before .before .before in
-    (search needs, (search needs, λ m waits. start .pre .0 .line .waits m waits .begun .1))
+take-out-of-both-requires : tie.Need-take-out-of-both-requires
+take-out-of-both-requires c κs = search needs
 
 abort-live-requires : tie.Need-abort-live-requires
 abort-live-requires c κs =
     let out = c .before .before .before in
     let start = out .before .before .before .before .before in
-    let sound = out-sound (ledgerAt start) (start .pre .0) (start .args .n) in
-    rw (out .take-out .ensures) (record { long = sound .long; few = sound .few; below = sound .below })
+    let sound = out-sound (start .pre .0) (start .args .n) in
+    rw (out .take-out-of-both .ensures) (record { long = sound .long; few = sound .few; below = sound .below })
 
-leave-requires : tie.Need-leave-requires
+leave-both-requires : tie.Need-leave-both-requires
 unfolding dropped
-leave-requires c κs =
+leave-both-requires c κs =
     let gone = c .before .before .before .before .before in
     let out = gone .before .before .before .before in
     let start = out .before .before .before .before .before in
-    rw (gone .abort-live .ensures .1, out .take-out .ensures)
+    rw (gone .abort-live .ensures .1, out .take-out-of-both .ensures)
     (dropped-sound (ledgerAt start) (start .pre .0) (start .args .n), start .pre .1)
 
 same-length : tie.Need-same-length
@@ -51,18 +50,18 @@ returns c =
     let start = out .before .before .before .before .before in
     rw (
       gone .abort-live .ensures .0,
-      out .take-out .ensures,
+      out .take-out-of-both .ensures,
       out-count (start .pre .0) (start .args .n),
     )
-    (rw (left .leave .ensures .0, left .leave .ensures .1, gone .abort-live .ensures .1, out .take-out .ensures))
+    (rw (left .leave-both .ensures .0, left .leave-both .ensures .1, gone .abort-live .ensures .1, out .take-out-of-both .ensures))
 
 pub abort-spec : {M : Type 1} → statement M
 abort-spec =
     tie.close
     (tie.spec
-    take-out-requires
+    take-out-of-both-requires
     abort-live-requires
-    leave-requires
+    leave-both-requires
     same-length
     same-length-2
     same-length-3

@@ -3,35 +3,38 @@
 use native.Mathlib.Omega.{arith}
 use mathlib.Core.Path.{sym, ap, _∙_}
 use borrow.Author.Needs.{needs}
-use Rattle.rules.specs.Queue.{theQueue, queueLength}
+use Rattle.rules.specs.Queue.{queueLength}
 use Rattle.rules.specs.Ledger.{Ledger, ledgerOf}
 use Rattle.rules.proofs.Sound.Leaving.{one-fewer}
+use Rattle.queue.proofs.OwnQueue.{sound-line}
 use Rattle.judging.proofs.Leaving.{StillLeaving, leaving-first, leaving-next, leaving-last}
 use Rattle.judging.proofs.leave.leave.Statement.{statement}
 use Rattle.judging.proofs.leave.leave.Tie as tie
 
 abbrev Inv-loop : tie.InvT-loop
-Inv-loop table₀ base₀ shadow₀ left₀ table base shadow left =
-    StillLeaving (ledgerOf table₀ base₀ shadow₀) (ledgerOf table base shadow) left
+Inv-loop table₀ base₀ shadow₀ h left₀ table base shadow left =
+    StillLeaving h (ledgerOf table₀ base₀ shadow₀) (ledgerOf table base shadow) left
 
 abbrev μ-loop : tie.MeasureT-loop
-μ-loop table₀ base₀ shadow₀ left₀ table base shadow left = queueLength table theQueue
+μ-loop table₀ base₀ shadow₀ h left₀ table base shadow left = queueLength table h
 
 loop-holds : tie.Need-loop-holds Inv-loop μ-loop
 loop-holds c =
     let start = c .before .before .before in
-    leaving-first (ledgerOf (start .args .table .now) (start .args .base .now) (start .args .shadow .now)) (start .pre .0) (start .pre .1)
+    leaving-first (start .args .h) (start .pre .1 .0)
+    (ledgerOf (start .args .table .now) (start .args .base .now) (start .args .shadow .now)) (start .pre .0) (start .pre .1 .1)
 
 is-head-ready-requires : tie.Need-is-head-ready-requires Inv-loop μ-loop
 is-head-ready-requires c κs =
-    let sound = c .before .loop .inv .sound in
-    record { long = sound .long; few = sound .line .short; known = omega arith }
+    let start = c .before .before .before .before .before in
+    sound-line (c .before .loop .inv .sound) (start .args .h) (start .pre .1 .0)
 
 leave-head-requires : tie.Need-leave-head-requires Inv-loop μ-loop
 leave-head-requires c κs =
     let tested = c .before .before .before in
     let inv = tested .before .before .before .loop .inv in
-    (inv .sound, (inv .fits, sym (tested .before .is-head-ready .ensures) ∙ tested .if1 .taken))
+    let known = tested .before .before .before .before .before .before .before .pre .1 .0 in
+    (inv .sound, (known, (inv .fits, sym (tested .before .is-head-ready .ensures) ∙ tested .if1 .taken)))
 
 add-left : tie.Need-add-left Inv-loop μ-loop
 add-left c =
@@ -44,8 +47,10 @@ loop-less c =
     let tested = left .before .before .before .before in
     let turn = tested .before .before .before .loop in
     let ready = sym (tested .before .is-head-ready .ensures) ∙ tested .if1 .taken in
-    let fewer = one-fewer (ledgerOf (turn .table) (turn .base) (turn .shadow)) (turn .inv .sound) ready in
-    let now = ap (λ (l : Ledger). queueLength (l .table) theQueue) (left .leave-head .ensures) in
+    let start = tested .before .before .before .before .before .before .before in
+    let h = start .args .h in
+    let fewer = one-fewer h (start .pre .1 .0) (ledgerOf (turn .table) (turn .base) (turn .shadow)) (turn .inv .sound) ready in
+    let now = ap (λ (l : Ledger). queueLength (l .table) h) (left .leave-head .ensures) in
     omega (arith, fewer, now)
 
 loop-again : tie.Need-loop-again Inv-loop μ-loop
@@ -56,7 +61,7 @@ loop-again c =
     let ready = sym (tested .before .is-head-ready .ensures) ∙ tested .if1 .taken in
     let start = tested .before .before .before .before .before .before .before in
     rw (left .leave-head .ensures)
-    (leaving-next (ledgerOf (start .args .table .now) (start .args .base .now) (start .args .shadow .now))
+    (leaving-next (start .args .h) (start .pre .1 .0) (ledgerOf (start .args .table .now) (start .args .base .now) (start .args .shadow .now))
     (ledgerOf (turn .table) (turn .base) (turn .shadow)) (turn .left) (turn .inv) ready)
 
 same-length : tie.Need-same-length Inv-loop μ-loop
@@ -73,7 +78,7 @@ returns c =
     let turn = c .before .before .before .loop in
     let start = c .before .before .before .before .before .before .before in
     let done =
-    leaving-last (ledgerOf (start .args .table .now) (start .args .base .now) (start .args .shadow .now))
+    leaving-last (start .args .h) (ledgerOf (start .args .table .now) (start .args .base .now) (start .args .shadow .now))
     (ledgerOf (turn .table) (turn .base) (turn .shadow)) (turn .left) (turn .inv) (sym (c .before .is-head-ready .ensures) ∙ c .if1 .left) in
     (sym (done .0), sym (done .1))
 

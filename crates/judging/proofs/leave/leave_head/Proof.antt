@@ -3,6 +3,7 @@
 use borrow.Author.Needs.{needs}
 use Rattle.rules.specs.Ledger.{Ledger, ledgerOf}
 use Rattle.rules.proofs.Sound.Leaving.{head-out-sound, head-committable}
+use Rattle.queue.proofs.OwnQueue.{sound-line, are-known}
 use Rattle.judging.proofs.leave.leave_head.Statement.{statement}
 use Rattle.judging.proofs.leave.leave_head.Tie as tie
 
@@ -11,21 +12,25 @@ abbrev ledgerAt : tie.Start → Ledger
 ledgerAt c = ledgerOf (c .args .table .now) (c .args .base .now) (c .args .shadow .now)
 
 head-requires : tie.Need-head-requires
-head-requires c κs = search needs
+head-requires c κs =
+    let start = c .before .before .before .before in sound-line (start .pre .0) (start .args .h) (start .pre .1 .0)
 
 take-out-requires : tie.Need-take-out-requires
 take-out-requires c κs =
     let start = c .before .before .before .before .before .before in
-    (search needs, (search needs, λ m waits. start .pre .0 .line .waits m waits .begun .1))
+    let known = start .pre .1 .0 in
+    (sound-line (start .pre .0) (start .args .h) known, (search needs, are-known (start .pre .0) (start .args .h) known))
 
 finish-requires : tie.Need-finish-requires
 finish-requires c κs =
     let out = c .before .before .before .before .before in
     let found = out .before .before in
     let start = found .before .before .before .before .before in
-    let sound = head-out-sound (ledgerAt start) (start .pre .0) (start .pre .1 .1) in
-    let own = head-committable (ledgerAt start) (start .pre .0) (start .pre .1 .1) .own in
-    rw (out .take-out .ensures, found .head .ensures) (sound, (own, start .pre .1 .0))
+    let known = start .pre .1 .0 in
+    let ready = start .pre .1 .1 .1 in
+    let sound = head-out-sound (start .args .h) known (ledgerAt start) (start .pre .0) ready in
+    let own = head-committable (start .args .h) known (ledgerAt start) (start .pre .0) ready .own in
+    rw (out .take-out .ensures, found .head .ensures) (sound, (own, start .pre .1 .1 .0))
 
 same-length : tie.Need-same-length
 same-length c = search needs

@@ -11,15 +11,15 @@ has-written-requires c κs = search needs
 returns : tie.Need-returns
 returns c = rw (sym (c .before .has-written .ensures) ∙ not-true _ (c .if1 .taken))
 
-read-entry-requires : tie.Need-read-entry-requires
-read-entry-requires c κs = search needs
+has-read-requires : tie.Need-has-read-requires
+has-read-requires c κs = search needs
 
 returns-2 : tie.Need-returns-2
 returns-2 c =
     rw (
       sym (c .before .before .has-written .ensures) ∙ not-false _ (c .before .if1 .left),
-      ← c .read-entry .ensures,
+      ← c .has-read .ensures,
     )
 
 pub is-met-at-spec : {M : Type 1} → statement M
-is-met-at-spec = tie.close (tie.spec has-written-requires returns read-entry-requires returns-2)
+is-met-at-spec = tie.close (tie.spec has-written-requires returns has-read-requires returns-2)

@@ -15,13 +15,22 @@ put-lines-requires c κs = search needs
 started-requires : tie.Need-started-requires
 started-requires c κs = search needs
 
-counter-requires : tie.Need-counter-requires
-counter-requires c κs = search needs
+top-counter-requires : tie.Need-top-counter-requires
+top-counter-requires c κs = search needs
+
+sub-counter-requires : tie.Need-sub-counter-requires
+sub-counter-requires c κs = search needs
 
 put-end-requires : tie.Need-put-end-requires
 put-end-requires c κs =
-    let given = c .before .before .before .before .before .before .before .before .before .before in
-    omega (arith, listing-fits (given .args .answers .now) (given .args .count) (c .before .before .started .result) (c .before .counter .result) (given .pre .0 .0))
+    let counted = c .before .before in
+    let begun = counted .before in
+    let given = begun .before .before .before .before .before .before .before .before in
+    omega (
+      arith,
+      listing-fits (given .args .answers .now) (given .args .count)
+          (begun .started .result) (counted .top-counter .result) (c .before .sub-counter .result) (given .pre .0 .0),
+    )
 
 same-length : tie.Need-same-length
 same-length c = search needs
@@ -30,8 +39,11 @@ returns : tie.Need-returns
 unfolding listingOf
 returns c =
     let ended = c .before .before in
-    let lined = ended .before .before .before .before .before .before in
-    rw (sym (ended .before .before .before .started .ensures), sym (ended .before .before .counter .ensures))
+    let subs = ended .before .before in
+    let tops = subs .before in
+    let begun = tops .before in
+    let lined = begun .before .before .before in
+    rw (sym (begun .started .ensures), sym (tops .top-counter .ensures), sym (subs .sub-counter .ensures))
     (put-front _ _ _ (lined .put-lines .ensures) (ended .put-end .ensures))
 
 pub put-listing-spec : {M : Type 1} → statement M
@@ -40,7 +52,8 @@ put-listing-spec =
     (tie.spec
     put-lines-requires
     started-requires
-    counter-requires
+    top-counter-requires
+    sub-counter-requires
     put-end-requires
     same-length
     returns)

@@ -16,7 +16,7 @@ use Rattle.soundness.proofs.queue.all_may_wait.Tie as tie
 
 abbrev Inv-loop : tie.InvT-loop
 Inv-loop table h tail i₀ i-end i =
-    all (mayWait table) (queueNumbers table h) ≡ all (λ m. mayWait table (entryNumber table h m)) (positionsFrom table h i)
+    all (mayWait table h) (queueNumbers table h) ≡ all (λ m. mayWait table h (entryNumber table h m)) (positionsFrom table h i)
 
 abbrev μ-loop : tie.MeasureT-loop
 μ-loop table h tail i₀ i-end i = i-end - i
@@ -28,7 +28,7 @@ add-i-end : tie.Need-add-i-end Inv-loop μ-loop
 add-i-end c = search needs
 
 loop-holds : tie.Need-loop-holds Inv-loop μ-loop
-loop-holds c = all-by-position _ _ (mayWait _)
+loop-holds c = all-by-position _ _ (mayWait _ _)
 
 entry-number-requires : tie.Need-entry-number-requires Inv-loop μ-loop
 entry-number-requires c κs = search needs
@@ -38,7 +38,7 @@ may-wait-requires c κs = search needs
 
 returns : tie.Need-returns Inv-loop μ-loop
 returns c =
-    let here = c .before .may-wait .ensures ∙ ap (mayWait _) (c .before .before .entry-number .ensures) in
+    let here = c .before .may-wait .ensures ∙ ap (mayWait _ _) (c .before .before .entry-number .ensures) in
     sym (c .before .before .before .before .loop .inv ∙ all-left-here _ _ _ (omega arith) (failed here (c .if1 .taken)))
 
 add-i : tie.Need-add-i Inv-loop μ-loop
@@ -49,7 +49,7 @@ loop-less c = omega arith
 
 loop-again : tie.Need-loop-again Inv-loop μ-loop
 loop-again c =
-    let here = c .before .may-wait .ensures ∙ ap (mayWait _) (c .before .before .entry-number .ensures) in
+    let here = c .before .may-wait .ensures ∙ ap (mayWait _ _) (c .before .before .entry-number .ensures) in
     c .before .before .before .before .loop .inv ∙ all-left-next _ _ _ (omega arith) (held here (c .if1 .left))
 
 returns-2 : tie.Need-returns-2 Inv-loop μ-loop

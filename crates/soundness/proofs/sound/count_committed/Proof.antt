@@ -1,5 +1,5 @@
--- `count_committed` meets its contract: those found below `n`, `n` the action at the loop's head, and those committed from `n`
--- on are together all that are committed; there are fewer than `n` of the first. Assumes nothing.
+-- `count_committed` meets its contract: those found below `n`, `n` the action at the loop's head, and those from `n` on that are
+-- committed and of kind `h` are together all of them; there are fewer than `n` of the first. Assumes nothing.
 use Prim.Native.Nat.{_+_, _-_, _≤_, _<_}
 use native.Mathlib.Nat.{zero-add, add-zero, add-sub-cancel}
 use native.Mathlib.Omega.{arith}
@@ -7,19 +7,20 @@ use mathlib.Core.Path.{_≡_, sym, _∙_}
 use mathlib.Core.Logic.{⊎-elim}
 use borrow.Author.Needs.{needs}
 use Rattle.rules.specs.Range.{upFrom, count}
-use Rattle.rules.specs.Table.{isCommitted, actions}
+use Rattle.rules.specs.Table.{actions}
+use Rattle.rules.specs.Sound.{isCommittedOf}
 use Rattle.rules.proofs.Laws.Ranges.{count-left-here, count-left-next, count-left-done}
 use Rattle.soundness.proofs.sound.count_committed.Statement.{statement}
 use Rattle.soundness.proofs.sound.count_committed.Tie as tie
 
 abbrev Inv-loop : tie.InvT-loop
-Inv-loop table last found₀ n₀ n-end found n =
+Inv-loop table h last found₀ n₀ n-end found n =
     (n ≤ n-end)
     × (found < n)
-    × (count (isCommitted table) (actions table) ≡ found + count (isCommitted table) (upFrom n (n-end - n)))
+    × (count (isCommittedOf table h) (actions table) ≡ found + count (isCommittedOf table h) (upFrom n (n-end - n)))
 
 abbrev μ-loop : tie.MeasureT-loop
-μ-loop table last found₀ n₀ n-end found n = n-end - n
+μ-loop table h last found₀ n₀ n-end found n = n-end - n
 
 last-start-requires : tie.Need-last-start-requires Inv-loop μ-loop
 last-start-requires c κs = search needs
@@ -31,8 +32,8 @@ loop-holds : tie.Need-loop-holds Inv-loop μ-loop
 unfolding actions
 loop-holds c = (omega arith, omega arith, rw (add-sub-cancel, zero-add, c .last-start .ensures))
 
-is-committed-requires : tie.Need-is-committed-requires Inv-loop μ-loop
-is-committed-requires c κs = search needs
+is-committed-of-requires : tie.Need-is-committed-of-requires Inv-loop μ-loop
+is-committed-of-requires c κs = search needs
 
 add-found : tie.Need-add-found Inv-loop μ-loop
 add-found c = search needs
@@ -46,7 +47,7 @@ loop-less c = omega arith
 loop-again : tie.Need-loop-again Inv-loop μ-loop
 loop-again c =
     let turn = c .before .before in
-    let told = sym (c .before .is-committed .ensures) in (
+    let told = sym (c .before .is-committed-of .ensures) in (
       omega arith,
       ⊎-elim (λ w. omega arith) (λ w. omega arith) (c .if1 .came),
       ⊎-elim
@@ -67,7 +68,7 @@ count-committed-spec =
     last-start-requires
     add-n-end
     loop-holds
-    is-committed-requires
+    is-committed-of-requires
     add-found
     add-n
     loop-less

@@ -20,22 +20,18 @@ unfolding sound
 returns-2 c =
     rw (eq-eqb _ _ (c .before .before .if1 .left), ← c .before .last-start .ensures, lt-leb _ mostActions (c .if2 .taken))
 
-count-committed-requires : tie.Need-count-committed-requires
-count-committed-requires c κs = search needs
-
-counter-requires : tie.Need-counter-requires
-counter-requires c κs = search needs
+are-counted-requires : tie.Need-are-counted-requires
+are-counted-requires c κs = search needs
 
 returns-3 : tie.Need-returns-3
 unfolding sound
 returns-3 c =
+    let two = c .before .before in
     rw (
-      eq-eqb _ _ (c .before .before .before .before .before .if1 .left),
-      ← c .before .before .before .before .last-start .ensures,
-      le-leb _ mostActions (c .before .before .before .if2 .left),
-      ← c .before .before .count-committed .ensures,
-      ← c .before .counter .ensures,
-      lt-leb _ _ (c .if3 .taken),
+      eq-eqb _ _ (two .before .before .if1 .left),
+      ← two .before .last-start .ensures,
+      le-leb _ mostActions (two .if2 .left),
+      failed (c .before .are-counted .ensures) (c .if3 .taken),
     )
 
 all-sound-requires : tie.Need-all-sound-requires
@@ -45,33 +41,31 @@ returns-4 : tie.Need-returns-4
 unfolding sound
 returns-4 c =
     let three = c .before .before in
+    let two = three .before .before in
     rw (
-      eq-eqb _ _ (three .before .before .before .before .before .if1 .left),
-      ← three .before .before .before .before .last-start .ensures,
-      le-leb _ mostActions (three .before .before .before .if2 .left),
-      ← three .before .before .count-committed .ensures,
-      ← three .before .counter .ensures,
-      le-leb _ _ (three .if3 .left),
+      eq-eqb _ _ (two .before .before .if1 .left),
+      ← two .before .last-start .ensures,
+      le-leb _ mostActions (two .if2 .left),
+      held (three .before .are-counted .ensures) (three .if3 .left),
       failed (c .before .all-sound .ensures) (c .if4 .taken),
     )
 
-is-sound-queue-requires : tie.Need-is-sound-queue-requires
-is-sound-queue-requires c κs = search needs
+are-sound-queues-requires : tie.Need-are-sound-queues-requires
+are-sound-queues-requires c κs = search needs
 
 returns-5 : tie.Need-returns-5
 unfolding sound
 returns-5 c =
     let four = c .before in
     let three = four .before .before in
+    let two = three .before .before in
     rw (
-      eq-eqb _ _ (three .before .before .before .before .before .if1 .left),
-      ← three .before .before .before .before .last-start .ensures,
-      le-leb _ mostActions (three .before .before .before .if2 .left),
-      ← three .before .before .count-committed .ensures,
-      ← three .before .counter .ensures,
-      le-leb _ _ (three .if3 .left),
+      eq-eqb _ _ (two .before .before .if1 .left),
+      ← two .before .last-start .ensures,
+      le-leb _ mostActions (two .if2 .left),
+      held (three .before .are-counted .ensures) (three .if3 .left),
       held (four .before .all-sound .ensures) (four .if4 .left),
-      c .is-sound-queue .ensures,
+      c .are-sound-queues .ensures,
     )
 
 pub is-sound-spec : {M : Type 1} → statement M
@@ -81,10 +75,9 @@ is-sound-spec =
     returns
     last-start-requires
     returns-2
-    count-committed-requires
-    counter-requires
+    are-counted-requires
     returns-3
     all-sound-requires
     returns-4
-    is-sound-queue-requires
+    are-sound-queues-requires
     returns-5)

@@ -1,29 +1,40 @@
--- `first_read` meets its contract. The loop's invariant: what is left of the accounts, from k on, makes of the
--- smallest time so far what they all make of the counter. Assumes nothing.
+-- `first_read` meets its contract. The loop's invariant: the smallest time so far is of the action's kind, and what is left of
+-- the accounts, from k on, makes of it what they all make of the counter. Assumes nothing.
 use Prim.Native.Nat.{_-_, _≤_}
 use native.Mathlib.Omega.{arith}
 use mathlib.Core.Path.{_≡_, sym, _∙_}
 use borrow.Author.Needs.{needs}
 use Rattle.rules.specs.Card.{accountCount}
+use Rattle.rules.specs.Table.{kindOf}
+use Rattle.rules.proofs.Laws.Kinds.{kind-known}
+use Rattle.rows.specs.Times.{kindIn, numberIn}
 use Rattle.validation.specs.FirstRead.{firstRead}
 use Rattle.validation.proofs.ClashSearch.{firstReadFrom, first-all, first-next, first-done}
 use Rattle.validation.proofs.search.first_read.Statement.{statement}
 use Rattle.validation.proofs.search.first_read.Tie as tie
 
 abbrev Inv-loop : tie.InvT-loop
-Inv-loop table n first₀ k₀ first k = (k ≤ accountCount) × (firstRead table n ≡ firstReadFrom table n k first)
+Inv-loop table n first₀ k₀ first k =
+    (k ≤ accountCount)
+    × (kindIn first ≡ kindOf table n)
+    × (firstRead table (kindOf table n) n ≡ firstReadFrom table (kindOf table n) n k (numberIn first))
 
 abbrev μ-loop : tie.MeasureT-loop
 μ-loop table n first₀ k₀ first k = accountCount - k
 
+kind-of-requires : tie.Need-kind-of-requires Inv-loop μ-loop
+kind-of-requires c κs = search needs
+
 counter-requires : tie.Need-counter-requires Inv-loop μ-loop
-counter-requires c κs = search needs
+counter-requires c κs = (search needs, rw (c .kind-of .ensures) (kind-known _))
 
 loop-holds : tie.Need-loop-holds Inv-loop μ-loop
-loop-holds c = rw (c .counter .ensures) (omega arith, first-all _ _)
-
-read-entry-requires : tie.Need-read-entry-requires Inv-loop μ-loop
-read-entry-requires c κs = search needs
+loop-holds c =
+    let kind = c .before .kind-of .ensures in (
+      omega arith,
+      c .counter .ensures .kind ∙ kind,
+      rw (c .counter .ensures .number, kind) (first-all _ _ _),
+    )
 
 sooner-read-requires : tie.Need-sooner-read-requires Inv-loop μ-loop
 sooner-read-requires c κs = search needs
@@ -36,15 +47,19 @@ loop-less c = omega arith
 
 loop-again : tie.Need-loop-again Inv-loop μ-loop
 loop-again c =
-    let loop = c .before .before .before .loop in (
+    let loop = c .before .before .loop in
+    let sooner = c .sooner-read .ensures in (
       omega arith,
-      loop .inv .1
-          ∙ first-next _ _ (loop .k) (loop .first) (c .before .before .loop-test .taken)
-          ∙ rw (c .sooner-read .ensures, c .before .read-entry .ensures),
+      sooner .kind ∙ loop .inv .1,
+      loop .inv .2
+          ∙ first-next _ _ _ (loop .k) (numberIn (loop .first)) (c .before .loop-test .taken)
+          ∙ rw (sooner .number, loop .inv .1),
     )
 
 returns : tie.Need-returns Inv-loop μ-loop
-returns c = sym (c .before .loop .inv .1 ∙ first-done _ _ _ _ (c .loop-test .left))
+returns c =
+    let loop = c .before .loop in
+    record { kind = loop .inv .1; number = sym (loop .inv .2 ∙ first-done _ _ _ _ _ (c .loop-test .left)) }
 
 pub first-read-spec : {M : Type 1} → statement M
 first-read-spec =
@@ -52,9 +67,9 @@ first-read-spec =
     (tie.spec
     Inv-loop
     μ-loop
+    kind-of-requires
     counter-requires
     loop-holds
-    read-entry-requires
     sooner-read-requires
     add-k
     loop-less

@@ -1,7 +1,6 @@
 -- `is_clash` meets its contract: each way out is one outcome of the three tests. Assumes nothing.
-use mathlib.Core.Path.{sym, _∙_}
 use borrow.Author.Needs.{needs}
-use borrow.Author.Tests.{ne-eqb, not-true, not-false}
+use Rattle.rules.proofs.Laws.Negated.{failed, held}
 use Rattle.validation.proofs.search.is_clash.Statement.{statement}
 use Rattle.validation.proofs.search.is_clash.Tie as tie
 
@@ -9,33 +8,32 @@ has-written-requires : tie.Need-has-written-requires
 has-written-requires c κs = search needs
 
 returns : tie.Need-returns
-returns c = rw (sym (c .before .has-written .ensures) ∙ not-true _ (c .if1 .taken))
+returns c = rw (failed (c .before .has-written .ensures) (c .if1 .taken))
 
-read-entry-requires : tie.Need-read-entry-requires
-read-entry-requires c κs = search needs
+has-read-requires : tie.Need-has-read-requires
+has-read-requires c κs = search needs
 
 returns-2 : tie.Need-returns-2
 returns-2 c =
+    let written = c .before .before in
     rw (
-      sym (c .before .before .before .has-written .ensures) ∙ not-false _ (c .before .before .if1 .left),
-      ← c .before .read-entry .ensures,
-      c .if2 .taken,
+      held (written .before .has-written .ensures) (written .if1 .left),
+      failed (c .before .has-read .ensures) (c .if2 .taken),
     )
 
-sub-result : tie.Need-sub-result
-sub-result c = search needs
-
-end-time-requires : tie.Need-end-time-requires
-end-time-requires c κs = search needs
+read-before-end-requires : tie.Need-read-before-end-requires
+read-before-end-requires c κs =
+    (search needs, (search needs, (search needs, held (c .before .has-read .ensures) (c .if2 .left))))
 
 returns-3 : tie.Need-returns-3
 returns-3 c =
+    let read = c .before in
+    let written = read .before .before in
     rw (
-      sym (c .before .before .before .before .has-written .ensures) ∙ not-false _ (c .before .before .before .if1 .left),
-      ← c .before .before .read-entry .ensures,
-      ← c .end-time .ensures,
-      ne-eqb _ _ (c .before .if2 .left),
+      held (written .before .has-written .ensures) (written .if1 .left),
+      held (read .before .has-read .ensures) (read .if2 .left),
     )
+    (c .read-before-end .ensures)
 
 pub is-clash-spec : {M : Type 1} → statement M
 is-clash-spec =
@@ -43,8 +41,7 @@ is-clash-spec =
     (tie.spec
     has-written-requires
     returns
-    read-entry-requires
+    has-read-requires
     returns-2
-    sub-result
-    end-time-requires
+    read-before-end-requires
     returns-3)

@@ -1,0 +1,22 @@
+-- `top_counter` gives the topactions' counter: the second word, which a table that is too short for it reads as 0. Assumes nothing.
+use native.Mathlib.Omega.{arith}
+use mathlib.Core.Path.{refl, sym}
+use lib.ListN.{List·getD-eq-default}
+use borrow.Author.Needs.{needs}
+use Rattle.rules.specs.Table.{word}
+use Rattle.table.proofs.top_counter.Statement.{statement}
+use Rattle.table.proofs.top_counter.Tie as tie
+
+returns : tie.Need-returns
+unfolding word
+returns c = sym (List·getD-eq-default (c .before .args .table .now) 0 (omega arith))
+
+shared-slice-read-result : tie.Need-shared-slice-read-result
+shared-slice-read-result c = search needs
+
+returns-2 : tie.Need-returns-2
+unfolding word
+returns-2 c = refl
+
+pub top-counter-spec : {M : Type 1} → statement M
+top-counter-spec = tie.close (tie.spec returns shared-slice-read-result returns-2)
