@@ -72,5 +72,8 @@ int main(void)
     event("the run commits", MUNDZAVCH_EVENT_COMMIT, RUN, NONE, NONE);
     printf("account 5 holds %d, account 6 %d, the depot %lld cents\n", base[MUNDZAVCH_CARD_BYTES * 5],
            base[MUNDZAVCH_CARD_BYTES * 6], (long long)amount(base + MUNDZAVCH_CARD_BYTES * DEPOT));
+    printf("topactions' counter %llu, subactions' counter %llu\n",
+           (unsigned long long)mundzavch_top_counter(table, MUNDZAVCH_TABLE_WORDS),
+           (unsigned long long)mundzavch_sub_counter(table, MUNDZAVCH_TABLE_WORDS));
     return 0;
 }

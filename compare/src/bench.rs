@@ -3,9 +3,10 @@
 use crate::dayfile::{event_bytes, run_day, MOST_EVENTS};
 use crate::generate::{day_file, events, Ending, Shape, Style};
 use crate::header::*;
-use crate::library::{encode, Lent, COUNTER, LIVE, QUEUE_LENGTH, READINESS, STATE};
+use crate::library::{encode, Lent, COUNTERS, ENTRIES, LIVE, QUEUE_LENGTHS, READINESS, STATE};
 use crate::model::{put_amount, Answer, Event, Ledger, State, Table, FIRST_CHARGE, STORE};
 use crate::random::Random;
+use crate::times::{Kind, Times};
 use std::fmt::Write;
 use std::hint::black_box;
 use std::time::Instant;
@@ -28,8 +29,9 @@ const FREE_ACCOUNT: u64 = CHARGE_ACCOUNT - 1;
 const CHARGE_ACCOUNT: u64 = FIRST_CHARGE as u64;
 /// How deep actions lie where that is measured.
 const MOVES: [u64; 3] = [1, 10, ACTIONS as u64];
-/// How many wait where that is measured.
+/// How many wait where that is measured, and in which queue.
 const QUEUED: [u64; 2] = [1, ACTIONS as u64 - 1];
+const WAITING: Kind = Kind::Top;
 /// Where an event has no use for an account.
 const NO_ACCOUNT: u64 = 0;
 
@@ -93,12 +95,12 @@ fn done(w: &mut Ledger, e: &Event) {
     assert!(!matches!(answer, Answer::Refused(_)), "{e:?} is answered {answer:?}");
 }
 
-/// The days, by name: without a queue as they lie, and one with it.
+/// The days, by name: without queues as they lie, and one with them.
 const DAYS: [(&str, Style); 4] = [
     ("deep", Style { shape: Shape::Deep, ending: Ending::Commits }),
     ("wide", Style { shape: Shape::Wide, ending: Ending::Commits }),
     ("mixed", Style { shape: Shape::Mixed, ending: Ending::Commits }),
-    ("wide, with the queue", Style { shape: Shape::Wide, ending: Ending::Queue }),
+    ("wide, with the queues", Style { shape: Shape::Wide, ending: Ending::Queue }),
 ];
 
 /// A whole day: file to listing, and its events alone.
@@ -229,7 +231,7 @@ fn searches(rows: &mut Vec<Row>) {
     }
 }
 
-/// A commit of action n. Each time the action is made live again, and the counter what it was.
+/// A commit of action n. Each time the action is made live again, and the counters what they were.
 fn commits_again(rows: &mut Vec<Row>, what: &str, mut ledger: Ledger, n: u64) {
     let mut lent = lend(&ledger);
     let commit = of(EVENT_COMMIT, n, NO_ACCOUNT);
@@ -239,12 +241,14 @@ fn commits_again(rows: &mut Vec<Row>, what: &str, mut ledger: Ledger, n: u64) {
         &mut || {
             black_box(lent.event(&commit));
             lent.table[n as usize * ROW_WORDS + STATE] = LIVE;
-            lent.table[COUNTER] = 0;
+            for at in COUNTERS {
+                lent.table[at] = 0;
+            }
         },
         &mut || {
             black_box(ledger.event(&commit));
             ledger.table.actions[n as usize - 1].state = State::Live;
-            ledger.table.counter = 0;
+            ledger.table.counters = Times::ZERO;
         },
     ));
 }
@@ -305,11 +309,11 @@ fn enters(rows: &mut Vec<Row>) {
             &format!("an enter, queued: {count}"),
             &mut || {
                 black_box(lent.event(&enter));
-                lent.table[QUEUE_LENGTH] = count;
+                lent.table[QUEUE_LENGTHS[WAITING as usize]] = count;
             },
             &mut || {
                 black_box(ledger.event(&enter));
-                ledger.table.queue.length = count;
+                ledger.table.queue_mut(WAITING).length = count;
             },
         ));
     }
@@ -328,11 +332,11 @@ fn judges_behind(rows: &mut Vec<Row>) {
             &format!("a judge, queued before it: {count}"),
             &mut || {
                 black_box(lent.event(&judge));
-                lent.table[ROW_WORDS * (at + 1) + READINESS] = 0;
+                lent.table[ROW_WORDS * (at + 1) + ENTRIES[WAITING as usize] + READINESS] = 0;
             },
             &mut || {
                 black_box(ledger.event(&judge));
-                ledger.table.queue.places[at].readiness = 0;
+                ledger.table.queue_mut(WAITING).places[at].readiness = 0;
             },
         ));
     }

@@ -1,15 +1,16 @@
-//! The calls beside event and look, on parts of any length and content: a list in one call, opening, the two numbers.
+//! The calls beside event and look, on parts of any length and content: a list in one call, opening, the three numbers.
 
 use crate::cause;
 use crate::coverage::Coverage;
 use crate::dayfile::{event_bytes, event_of};
 use crate::generate::{event, style};
 use crate::header::{ANSWER_WORDS, BASE_BYTES, EVENT_BYTES, SHADOW_BYTES, TABLE_WORDS};
-use crate::library::{answer_words, decode, encode, Lent, COUNTER, STARTED};
+use crate::library::{answer_words, decode, encode, Lent, COUNTERS, STARTED};
 use crate::lists::STALE;
-use crate::model::Ledger;
+use crate::model::{Ledger, Table};
 use crate::random::Random;
 use crate::same::{same, same_lent, same_words, Compared};
+use crate::times::Times;
 
 /// A list has fewer events than this; a buffer that may be too small, fewer words.
 const EVENTS: u64 = 6;
@@ -43,7 +44,7 @@ fn expected_list(before: &Lent, bytes: &[u8], room: usize) -> (u64, Lent, Vec<u6
     if before.base.len() != BASE_BYTES || before.shadow.len() != SHADOW_BYTES {
         return refused(cause::STORE_LENGTH);
     }
-    let Some(table) = decode(&before.table).filter(|t| t.soundness().is_ok()) else {
+    let Some(table) = decode(&before.table).filter(Table::is_sound) else {
         return refused(cause::UNSOUND);
     };
     if bytes.len() % EVENT_BYTES != 0 || room / ANSWER_WORDS < bytes.len() / EVENT_BYTES {
@@ -58,9 +59,10 @@ fn expected_list(before: &Lent, bytes: &[u8], room: usize) -> (u64, Lent, Vec<u6
     (cause::NONE, after, words)
 }
 
-pub fn open_and_two_numbers(before: &Lent) -> Compared {
+pub fn open_and_three_numbers(before: &Lent) -> Compared {
     let word = |i: usize| before.table.get(i).copied().unwrap_or(0);
-    same("the two numbers", before.two_numbers(), (word(STARTED), word(COUNTER)))?;
+    let [top, sub] = COUNTERS.map(word);
+    same("the three numbers", before.three_numbers(), (word(STARTED), Times::new(top, sub)))?;
     let fits = before.table.len() == TABLE_WORDS;
     let mut lent = before.clone();
     same("open", lent.open(), if fits { cause::NONE } else { cause::UNSOUND })?;

@@ -1,22 +1,25 @@
-//! Cases of own adds and trees at the ends of what an amount holds, and of the queue. Each has a name, and both engines
-//! are held to what the case says.
+//! Cases of own adds and trees at the ends of what an amount holds, and of the two queues and the two counters. Each
+//! has a name, and both engines are held to what the case says.
 
 use crate::cause;
 use crate::coverage::Coverage;
 use crate::header::{BASE_BYTES, CARD_BYTES, EVENT_ADD, SHADOW_BYTES, TABLE_WORDS};
+use crate::kind_cases;
 use crate::library::{encode, Lent};
 use crate::model::State::{self, Aborted, Committed, Live};
 use crate::model::{put_amount, Action, Answer, Event, Ledger, Table, CHARGE_ACCOUNTS, FIRST_CHARGE, STORE};
-use crate::queue_cases::{longest, GROUPS};
+use crate::queue_cases::{self, longest};
 use crate::same::{same_lent, Compared};
 use crate::scripts::check_script;
+use crate::times::Times;
 use crate::trees::tree;
 
 /// The ends of what an amount holds.
 const MOST: i64 = i64::MAX;
 const LEAST: i64 = i64::MIN;
-/// A counter that no table of a case can have, so that it is not sound.
-const TOO_HIGH: u64 = 60;
+/// Counters of which no table of a case can have the one or the other, so that it is not sound.
+const TOP_TOO_HIGH: Times = Times::new(60, 0);
+const SUB_TOO_HIGH: Times = Times::new(0, 60);
 /// What the stores hold. With this as an opening amount, opening and sum may lie outside; nothing asks for that.
 const FILL: u8 = 0x7f;
 
@@ -26,13 +29,13 @@ type Made = (u64, State, i64);
 struct TreeCase {
     name: &'static str,
     actions: &'static [Made],
-    counter: u64,
+    counters: Times,
     opening_bytes: usize,
     cause: u64,
 }
 
 const fn passes(name: &'static str, actions: &'static [Made]) -> TreeCase {
-    TreeCase { name, actions, counter: 0, opening_bytes: BASE_BYTES, cause: cause::NONE }
+    TreeCase { name, actions, counters: Times::ZERO, opening_bytes: BASE_BYTES, cause: cause::NONE }
 }
 
 const fn outside(name: &'static str, actions: &'static [Made]) -> TreeCase {
@@ -74,9 +77,10 @@ const TREES: &[TreeCase] = &[
         "topactions that have not committed",
         &[(STORE, Committed, MOST), (STORE, Live, MOST), (STORE, Aborted, MOST)],
     ),
-    TreeCase { counter: TOO_HIGH, cause: cause::UNSOUND, ..passes("an unsound table", OUTSIDE) },
+    TreeCase { counters: TOP_TOO_HIGH, cause: cause::UNSOUND, ..passes("an unsound table", OUTSIDE) },
+    TreeCase { counters: SUB_TOO_HIGH, cause: cause::UNSOUND, ..passes("a table unsound in its subactions", OUTSIDE) },
     TreeCase {
-        counter: TOO_HIGH,
+        counters: TOP_TOO_HIGH,
         opening_bytes: BASE_BYTES - 1,
         cause: cause::STORE_LENGTH,
         ..passes("an unsound table and a short opening store", OUTSIDE)
@@ -132,7 +136,7 @@ fn made(actions: &[Made], charge: usize) -> Table {
 }
 
 fn tree_case(case: &TreeCase, charge: usize) -> Compared {
-    let table = Table { counter: case.counter, ..made(case.actions, charge) };
+    let table = Table { counters: case.counters, ..made(case.actions, charge) };
     let report = tree(&lend(&ledger(table)), &vec![FILL; case.opening_bytes], &mut Coverage::default())?;
     if report.cause == case.cause {
         return Ok(());
@@ -157,13 +161,13 @@ fn add_case(case: &AddCase, charge: usize) -> Compared {
 }
 
 fn script_case(group: &str, name: &str, script: &str, seen: &mut Coverage) -> Compared {
-    check_script(script).map_err(|text| format!("{text}\nin the case of the queue, {group}: {name}"))?;
+    check_script(script).map_err(|text| format!("{text}\nin the case of the queues and times, {group}: {name}"))?;
     seen.cases += 1;
     Ok(())
 }
 
-fn check_queue_cases(seen: &mut Coverage) -> Compared {
-    for (group, cases) in GROUPS {
+fn check_scripts(seen: &mut Coverage) -> Compared {
+    for (group, cases) in queue_cases::GROUPS.iter().chain(kind_cases::GROUPS) {
         for (name, script) in *cases {
             script_case(group, name, script, seen)?;
         }
@@ -176,7 +180,7 @@ fn check_queue_cases(seen: &mut Coverage) -> Compared {
 
 /// Every case; those of sums on each charge account in turn.
 pub fn check_cases(seen: &mut Coverage) -> Compared {
-    check_queue_cases(seen)?;
+    check_scripts(seen)?;
     for charge in 0..CHARGE_ACCOUNTS {
         for case in TREES {
             tree_case(case, charge).map_err(|text| format!("{text}\nin the case of a tree: {}", case.name))?;

@@ -22,9 +22,9 @@ pub const KIND_OF_ACCOUNT: u64 = 13;
 pub const AMOUNT: u64 = 14;
 /// A sum that is no amount.
 pub const SUM: u64 = 15;
-/// Of an action that waits in the queue.
+/// Of an action that waits in a queue.
 pub const QUEUED: u64 = 16;
-/// A judge of an action that is not in the queue, or that is ready.
+/// A judge of an action that is not in its queue, or that is ready.
 pub const NOTHING_TO_JUDGE: u64 = 17;
-/// A commit beside a queue that is not empty.
+/// A commit while the queue of the action's kind is not empty.
 pub const QUEUE_FIRST: u64 = 18;

@@ -11,8 +11,11 @@ use std::io::{stderr, IsTerminal, Write};
 /// Events for each damaged table, and for each day.
 const EVENTS_TO_A_TABLE: u64 = 10;
 const EVENTS_TO_A_DAY: u64 = 100;
+/// From so many events on, a run that left out a point of its coverage is no good.
+const ENOUGH: u64 = 100_000;
 
-/// All of it: the cases, `count` events in lists, and fewer damaged tables and days; whether nothing differs.
+/// All of it: the cases, `count` events in lists, and fewer damaged tables and days; whether nothing differs, and
+/// nothing was left out.
 pub fn check(count: u64, seed: u64) -> bool {
     let mut seen = Coverage::default();
     let result = check_cases(&mut seen)
@@ -23,8 +26,12 @@ pub fn check(count: u64, seed: u64) -> bool {
     print!("{seen}");
     match result {
         Ok(()) => {
+            let left_out = seen.left_out();
+            if !left_out.is_empty() {
+                println!("left out: {}", left_out.join("; "));
+            }
             println!("{} compared, 0 differ", seen.compared());
-            true
+            left_out.is_empty() || count < ENOUGH
         }
         Err(text) => {
             println!("{text}");

@@ -1,9 +1,12 @@
 //! What a comparison has met, so that a reader sees that nothing was left out.
 
+use crate::before::{Before, Joins};
 use crate::cause;
 use crate::header::{EVENT_ADD, EVENT_COMMIT, EVENT_READ};
-use crate::model::{amount_in, Answer, Event, Outcome, Shown, Unsound, FIRST_CHARGE};
-use crate::queue::Queue;
+use crate::model::{amount_in, Answer, Event, Outcome, Shown, Table, FIRST_CHARGE};
+use crate::queue_coverage::QueueCoverage;
+use crate::sound::Unsound;
+use crate::times::{Kind, KINDS};
 use crate::trees::Report;
 use std::collections::BTreeMap;
 use std::fmt;
@@ -17,8 +20,10 @@ pub struct Coverage {
     sums: BTreeMap<&'static str, u64>,
     sums_refused: BTreeMap<&'static str, u64>,
     charge_clashes: u64,
-    pub reads_behind: u64,
-    unsound: BTreeMap<String, u64>,
+    joins: Joins,
+    unsound: BTreeMap<Unsound, u64>,
+    unsound_alone: BTreeMap<Unsound, u64>,
+    unsound_by_kind: BTreeMap<Unsound, u64>,
     sound: u64,
     pub table_length: u64,
     pub lists: u64,
@@ -30,7 +35,7 @@ pub struct Coverage {
     pub damaged: u64,
     pub own_adds_refused: u64,
     looks_refused: BTreeMap<u64, u64>,
-    pub queues: Queues,
+    queues: QueueCoverage,
     pub cases: u64,
     trees: u64,
     tree_refusals: BTreeMap<u64, u64>,
@@ -45,61 +50,26 @@ pub struct Coverage {
     events: u64,
 }
 
-/// Queues from this length on are counted together.
-const LONG: u64 = 8;
+/// Something that a comparison has to meet, and how often it has.
+pub type Point = (String, u64);
 
-/// What events met in the queue.
-#[derive(Default)]
-pub struct Queues {
-    by_length: BTreeMap<u64, u64>,
-    left_committed: u64,
-    left_aborted: u64,
-    left_together: u64,
-    judged_behind: u64,
-    aborted_out: u64,
-    ready_heads: u64,
-    ready_heads_left: u64,
-    left_though_failed: u64,
-}
-
-impl Queues {
-    /// An event that found this queue in a sound table, and what came of it.
-    pub fn event(&mut self, before: &Queue, after: &Queue, done: &Outcome) {
-        *self.by_length.entry(before.length.min(LONG)).or_default() += 1;
-        for w in &done.left {
-            let though_failed = before.entry(w.number).is_some_and(|entry| entry.has_failed());
-            self.left_though_failed += u64::from(though_failed);
-            self.left_committed += u64::from(w.committed);
-            self.left_aborted += u64::from(!w.committed);
-        }
-        let left = done.left.len() as u64;
-        self.left_together += u64::from(left > 1);
-        self.judged_behind += u64::from(matches!(done.answer, Answer::Ready(0)));
-        if let Answer::Aborted(..) = done.answer {
-            self.aborted_out += before.length - after.length - left;
-        }
-        if let Some(head) = before.ready_head() {
-            self.ready_heads += 1;
-            self.ready_heads_left += u64::from(done.left.iter().any(|w| w.number == head));
-        }
-    }
-}
-
-impl fmt::Display for Queues {
-    fn fmt(&self, f: &mut fmt::Formatter) -> fmt::Result {
-        let length = |l: u64| if l < LONG { l.to_string() } else { format!("{l}+") };
-        row(f, "queues by length", &self.by_length.iter().map(|(&l, &n)| (length(l), n)).collect())?;
-        writeln!(f, "left the queue as committed: {}, aborted for sums: {}", self.left_committed, self.left_aborted)?;
-        writeln!(
-            f,
-            "several left at one event: {}, ready and not yet at the head: {}",
-            self.left_together, self.judged_behind
-        )?;
-        writeln!(f, "taken out by aborts: {}", self.aborted_out)?;
-        writeln!(f, "heads ready beforehand: {}, that then left: {}", self.ready_heads, self.ready_heads_left)?;
-        writeln!(f, "left though their verdict is failed: {}", self.left_though_failed)
-    }
-}
+/// The clauses of docs/RULES.md, 7, that there are two of, one for each kind.
+const PER_KIND: [fn(Kind) -> Unsound; 11] = [
+    Unsound::Counter,
+    Unsound::ReadTime,
+    Unsound::ReadTimeOfOther,
+    Unsound::NoEndTime,
+    Unsound::EndTime,
+    Unsound::QueueLength,
+    Unsound::QueuedNobody,
+    Unsound::QueuedNotLive,
+    Unsound::QueuedOfOther,
+    Unsound::QueuedChildLive,
+    Unsound::QueuedTwice,
+];
+/// Those of them that an engine could take for kept, if it held the times of both kinds to one another.
+const BY_TIMES: [fn(Kind) -> Unsound; 4] =
+    [Unsound::Counter, Unsound::ReadTime, Unsound::ReadTimeOfOther, Unsound::EndTime];
 
 /// The causes of a tree, each of which is shown, also with a count of 0.
 const TREE_CAUSES: [u64; 3] = [cause::STORE_LENGTH, cause::UNSOUND, cause::SUM];
@@ -149,11 +119,60 @@ impl Coverage {
         }
     }
 
-    pub fn soundness(&mut self, s: Result<(), Unsound>) {
-        match s {
-            Ok(()) => self.sound += 1,
-            Err(clause) => *self.unsound.entry(format!("{clause:?}")).or_default() += 1,
+    /// An event on a sound table, and what came of it.
+    pub fn outcome(&mut self, before: &Before, after: &Table, done: &Outcome) {
+        self.queues.event(before, after, done);
+        if let Answer::Committed(_) = done.answer {
+            self.joins.behind += before.joins.behind;
+            self.joins.behind_later += before.joins.behind_later;
+            self.joins.crossed += before.joins.crossed;
         }
+    }
+
+    pub fn soundness(&mut self, table: &Table) {
+        let faults: Vec<Unsound> = table.faults().into_iter().collect();
+        for &clause in &faults {
+            *self.unsound.entry(clause).or_default() += 1;
+        }
+        match faults[..] {
+            [] => self.sound += 1,
+            [alone] => {
+                *self.unsound_alone.entry(alone).or_default() += 1;
+                if table.is_sound_in_mixed_times() {
+                    *self.unsound_by_kind.entry(alone).or_default() += 1;
+                }
+            }
+            _ => {}
+        }
+    }
+
+    /// What a comparison has to meet.
+    fn points(&self) -> Vec<Point> {
+        let of = |counts: &BTreeMap<Unsound, u64>, clause| counts.get(&clause).copied().unwrap_or(0);
+        let mut points = self.queues.points();
+        points.push(("a read joined that takes its times from two".to_string(), self.joins.crossed));
+        for kind in KINDS {
+            for clause in PER_KIND.map(|clause| clause(kind)) {
+                points.push((format!("{clause:?} broken alone"), of(&self.unsound_alone, clause)));
+            }
+            for clause in BY_TIMES.map(|clause| clause(kind)) {
+                points.push((format!("{clause:?} broken within the other kind"), of(&self.unsound_by_kind, clause)));
+            }
+        }
+        points
+    }
+
+    /// The points that it has not met.
+    pub fn left_out(&self) -> Vec<String> {
+        self.points().into_iter().filter(|(_, count)| *count == 0).map(|(point, _)| point).collect()
+    }
+
+    fn show_soundness(&self, f: &mut fmt::Formatter) -> fmt::Result {
+        let named = |counts: &BTreeMap<Unsound, u64>| counts.iter().map(|(c, &n)| (format!("{c:?}"), n)).collect();
+        row(f, "unsound by clause", &named(&self.unsound))?;
+        row(f, "unsound by one clause alone", &named(&self.unsound_alone))?;
+        row(f, "of these sound if the kinds were not parted", &named(&self.unsound_by_kind))?;
+        writeln!(f, "sound all the same: {}, tables of another length: {}", self.sound, self.table_length)
     }
 
     pub fn list_call(&mut self, cause: u64) {
@@ -227,7 +246,7 @@ fn sign(amount: i64) -> &'static str {
     }
 }
 
-fn row<K: fmt::Display>(f: &mut fmt::Formatter, title: &str, counts: &BTreeMap<K, u64>) -> fmt::Result {
+pub fn row<K: fmt::Display>(f: &mut fmt::Formatter, title: &str, counts: &BTreeMap<K, u64>) -> fmt::Result {
     write!(f, "{title}:")?;
     for (k, n) in counts {
         write!(f, " {k} {n}")?;
@@ -247,14 +266,15 @@ impl fmt::Display for Coverage {
         row(f, "refused 15 by event", &self.sums_refused)?;
         writeln!(f, "adds refused 15 for own adds alone: {}", self.own_adds_refused)?;
         writeln!(f, "failed over a charge account: {}", self.charge_clashes)?;
-        writeln!(f, "reads left behind at a parent's card: {}", self.reads_behind)?;
+        let Joins { behind, behind_later, crossed } = self.joins;
+        writeln!(f, "reads left behind at a parent's card: {behind}, though the parent's are later: {behind_later}")?;
+        writeln!(f, "reads joined that take their times from two: {crossed}")?;
         writeln!(f, "lists: {}, lists in one call: {}", self.lists, self.list_calls)?;
         row(f, "lists in one call refused by number", &self.list_refusals)?;
         writeln!(f, "reads held to the serial run: {}, with a sum: {}", self.serial_reads, self.serial_sums)?;
         writeln!(f, "base amounts held to what was added: {}", self.amounts_held)?;
         writeln!(f, "damaged tables and stores: {}", self.damaged)?;
-        row(f, "unsound by clause", &self.unsound)?;
-        writeln!(f, "sound all the same: {}, tables of another length: {}", self.sound, self.table_length)?;
+        self.show_soundness(f)?;
         self.show_trees(f)?;
         writeln!(f, "days: {}", self.days)?;
         row(f, "days refused by number", &self.day_refusals)?;

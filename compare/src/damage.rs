@@ -1,23 +1,24 @@
 //! Damage to tables and stores.
 
+use crate::damage_queues::damage_queues;
 use crate::generate::{any_base, busy_charge, extreme};
 use crate::header::*;
 use crate::library::{Lent, ABORTED, COMMITTED, LIVE};
-use crate::library::{COUNTER, END, OWN_ADDS, PARENT, PENDING, READS, STARTED, STATE, WRITES};
-use crate::library::{QUEUED, QUEUE_LENGTH, READINESS, VERDICT};
+use crate::library::{COUNTERS, END, HEAD_WORDS, OWN_ADDS, PARENT, PENDING, READS, STARTED, STATE, SUB_TIMES, WRITES};
 use crate::model::{base_card, put_amount, CHARGE_ACCOUNTS, FIRST_CHARGE};
 use crate::random::Random;
+use crate::times::{Kind, KINDS};
 
-/// An enum of kinds of damage, with the list of them all.
+/// An enum of damages, with the list of them all.
 macro_rules! damages {
-    ($($kind:ident),* $(,)?) => {
+    ($($damage:ident),* $(,)?) => {
         /// A fault, or something that looks like one and that docs/RULES.md leaves free.
         #[derive(Clone, Copy)]
         pub enum Damage {
-            $($kind),*
+            $($damage),*
         }
 
-        pub const DAMAGES: &[Damage] = &[$(Damage::$kind),*];
+        pub const DAMAGES: &[Damage] = &[$(Damage::$damage),*];
     };
 }
 
@@ -27,6 +28,7 @@ damages! {
     TableLength,
     Started,
     Counter,
+    CounterOfAll,
     UnusedHead,
     UnusedRow,
     NoState,
@@ -34,7 +36,12 @@ damages! {
     OtherParent,
     OtherState,
     LateRead,
+    LateReadWithinOther,
+    ReadTimes,
+    CrossedReads,
+    UnreadTimes,
     EndTime,
+    EndTimeWithinOther,
     WriteEntry,
     EndTimeTwice,
     PendingAstray,
@@ -43,6 +50,7 @@ damages! {
     BaseAtEnds,
     QueueMade,
     QueueMadeReady,
+    QueuesMadeReady,
     QueueLength,
     QueueLonger,
     QueueShorter,
@@ -51,6 +59,7 @@ damages! {
     EntryNobody,
     EntryOther,
     EntryTwice,
+    EntryOfOtherKind,
 }
 
 use Damage::*;
@@ -61,12 +70,19 @@ pub const LENGTHS: &[Damage] = &[BaseLength, ShadowLength, TableLength];
 /// Lengths that are not those of the stores and of a table.
 const BASE_LENGTHS: [usize; 6] = [0, 1, BASE_BYTES - CARD_BYTES, BASE_BYTES - 1, BASE_BYTES + 1, 2 * BASE_BYTES];
 const SHADOW_LENGTHS: [usize; 6] = [0, 1, BASE_BYTES, SHADOW_BYTES - 1, SHADOW_BYTES + 1, SHADOW_BYTES + BASE_BYTES];
-const TABLE_LENGTHS: [usize; 7] =
-    [0, COUNTER, COUNTER + 1, ROW_WORDS, TABLE_WORDS - 1, TABLE_WORDS + 1, TABLE_WORDS + ROW_WORDS];
+const TABLE_LENGTHS: [usize; 9] = [
+    STARTED,
+    COUNTERS[0],
+    COUNTERS[1],
+    COUNTERS[1] + 1,
+    HEAD_WORDS,
+    ROW_WORDS,
+    TABLE_WORDS - 1,
+    TABLE_WORDS + 1,
+    TABLE_WORDS + ROW_WORDS,
+];
 /// Words of the head that nothing is kept in.
-const UNUSED_HEAD: [std::ops::Range<usize>; 2] = [COUNTER + 1..QUEUE_LENGTH, QUEUE_LENGTH + 1..ROW_WORDS];
-/// What stands in words that are only asked whether they are 0.
-const ODD: [u64; 6] = [0, 0, 1, 7, 1 << 63, u64::MAX];
+const UNUSED_HEAD: std::ops::Range<usize> = HEAD_WORDS..ROW_WORDS;
 /// One opening store in so many has another length.
 const OTHER_OPENING: u64 = 8;
 /// One action in so many gets other own adds: all, some or few of them.
@@ -74,13 +90,13 @@ const OWN_ADDS_RARE: [u64; 3] = [1, 2, 8];
 /// What a store is filled up with where it grows.
 const FILL: u8 = 7;
 
-fn row(words: &mut [u64], n: u64) -> &mut [u64] {
+pub fn row(words: &mut [u64], n: u64) -> &mut [u64] {
     let from = ROW_WORDS * n as usize;
     &mut words[from..from + ROW_WORDS]
 }
 
 /// A number near a limit, or far beyond it.
-fn beyond(r: &mut Random, limit: u64) -> u64 {
+pub fn beyond(r: &mut Random, limit: u64) -> u64 {
     if r.one_in(3) {
         r.next().max(limit)
     } else {
@@ -88,30 +104,33 @@ fn beyond(r: &mut Random, limit: u64) -> u64 {
     }
 }
 
-pub fn damage(r: &mut Random, kind: Damage, lent: &mut Lent) {
-    match kind {
+/// One of the numbers above a first one, up to and with a last one; None where there is none.
+fn between(r: &mut Random, above: u64, last: u64) -> Option<u64> {
+    (above < last).then(|| above + 1 + r.below(last - above))
+}
+
+pub fn damage(r: &mut Random, damage: Damage, lent: &mut Lent) {
+    let words = &mut lent.table;
+    match damage {
         BaseLength => lent.base.resize(*r.pick(&BASE_LENGTHS), FILL),
         ShadowLength => lent.shadow.resize(*r.pick(&SHADOW_LENGTHS), FILL),
-        TableLength => lent.table.resize(*r.pick(&TABLE_LENGTHS), 0),
+        TableLength => words.resize(*r.pick(&TABLE_LENGTHS), 0),
         BaseAtEnds => damage_amounts(r, &mut lent.base),
-        _ if lent.table.len() != TABLE_WORDS => {}
-        Started => lent.table[STARTED] = beyond(r, ACTIONS as u64 + 1),
-        Counter => lent.table[COUNTER] = beyond(r, lent.table[COUNTER].saturating_add(1)),
-        UnusedHead => {
-            let unused: Vec<usize> = UNUSED_HEAD.into_iter().flatten().collect();
-            lent.table[*r.pick(&unused)] = r.next();
-        }
-        UnusedRow => damage_unused_row(r, &mut lent.table),
-        QueueMade => make_queue(r, &mut lent.table, false),
-        QueueMadeReady => make_queue(r, &mut lent.table, true),
-        QueueLength => lent.table[QUEUE_LENGTH] = beyond(r, ACTIONS as u64 + 1),
-        EntriesAbove => damage_entries_above(r, &mut lent.table),
-        QueueLonger | QueueShorter | EntryWords | EntryNobody | EntryOther | EntryTwice => {
-            damage_queue(r, kind, &mut lent.table)
-        }
-        PendingAtEnds => damage_sums(r, &mut lent.table),
-        OwnAddsAtEnds => damage_own_adds(r, &mut lent.table),
-        _ => damage_action(r, kind, &mut lent.table),
+        _ if words.len() != TABLE_WORDS => {}
+        Started => words[STARTED] = beyond(r, ACTIONS as u64 + 1),
+        Counter | CounterOfAll => damage_counter(r, damage, words),
+        UnusedHead => words[UNUSED_HEAD.start + r.below(UNUSED_HEAD.len() as u64) as usize] = r.next(),
+        UnusedRow => damage_unused_row(r, words),
+        QueueMade | QueueMadeReady | QueuesMadeReady | QueueLength | QueueLonger | QueueShorter | EntriesAbove
+        | EntryWords | EntryNobody | EntryOther | EntryTwice | EntryOfOtherKind => damage_queues(r, damage, words),
+        LateRead | LateReadWithinOther => damage_late_read(r, damage, words),
+        ReadTimes => damage_read_times(r, words),
+        CrossedReads => cross_reads(r, words),
+        UnreadTimes => damage_unread_times(r, words),
+        EndTime | EndTimeWithinOther => damage_end_time(r, damage, words),
+        PendingAtEnds => damage_sums(r, words),
+        OwnAddsAtEnds => damage_own_adds(r, words),
+        _ => damage_action(r, damage, words),
     }
 }
 
@@ -128,8 +147,132 @@ fn damage_amounts(r: &mut Random, base: &mut [u8]) {
 }
 
 /// How many rows are actions, whatever the head says.
-fn started(words: &[u64]) -> u64 {
+pub fn started(words: &[u64]) -> u64 {
     words[STARTED].min(ACTIONS as u64)
+}
+
+pub fn field(words: &[u64], n: u64, at: usize) -> u64 {
+    words[ROW_WORDS * n as usize + at]
+}
+
+pub fn kind_of(words: &[u64], n: u64) -> Kind {
+    Kind::under(field(words, n, PARENT))
+}
+
+fn counter(words: &[u64], kind: Kind) -> u64 {
+    words[COUNTERS[kind as usize]]
+}
+
+/// A started action that fits, if there is one.
+pub fn any_action(r: &mut Random, words: &[u64], fits: impl Fn(u64) -> bool) -> Option<u64> {
+    let fitting: Vec<u64> = (1..=started(words)).filter(|&n| fits(n)).collect();
+    (!fitting.is_empty()).then(|| *r.pick(&fitting))
+}
+
+/// Whether an action may wait in its queue: it is live, and has no live child.
+pub fn may_wait(words: &[u64], n: u64) -> bool {
+    let is_live = |n: u64| field(words, n, STATE) == LIVE;
+    is_live(n) && !(1..=started(words)).any(|m| is_live(m) && field(words, m, PARENT) == n)
+}
+
+/// Either counter raised: by any number, or to what all actions together would allow.
+fn damage_counter(r: &mut Random, damage: Damage, words: &mut [u64]) {
+    let kind = *r.pick(&KINDS);
+    let raised = match damage {
+        CounterOfAll => {
+            let committed = |n: &u64| field(words, *n, STATE) == COMMITTED;
+            let all: Vec<u64> = (1..=started(words)).filter(committed).collect();
+            let own = all.iter().filter(|&&n| kind_of(words, n) == kind).count();
+            between(r, own as u64, all.len() as u64)
+        }
+        _ => Some(beyond(r, counter(words, kind).saturating_add(1))),
+    };
+    if let Some(raised) = raised {
+        words[COUNTERS[kind as usize]] = raised;
+    }
+}
+
+/// A time above the counter of its kind, or at it; where that is asked, one that is not above the other counter.
+fn late_time(r: &mut Random, words: &[u64], within_other: bool) -> Option<(Kind, u64)> {
+    if !within_other {
+        let kind = *r.pick(&KINDS);
+        return Some((kind, beyond(r, counter(words, kind))));
+    }
+    let [top, sub] = KINDS.map(|kind| counter(words, kind));
+    let lower = if top < sub { Kind::Top } else { Kind::Sub };
+    between(r, top.min(sub), top.max(sub)).map(|time| (lower, time))
+}
+
+/// A read of which one time is late, mostly by a live action; the other is 0 where there was no read before.
+fn damage_late_read(r: &mut Random, damage: Damage, words: &mut [u64]) {
+    let anyone = r.one_in(4);
+    let Some((kind, time)) = late_time(r, words, matches!(damage, LateReadWithinOther)) else { return };
+    let Some(n) = any_action(r, words, |n| anyone || field(words, n, STATE) == LIVE) else { return };
+    let k = r.below(ACCOUNTS as u64) as usize;
+    let row = row(words, n);
+    if row[READS + k] == 0 {
+        (row[READS + k], row[SUB_TIMES + k]) = (1, 0);
+    }
+    match kind {
+        Kind::Top => row[READS + k] = time.saturating_add(1),
+        Kind::Sub => row[SUB_TIMES + k] = time,
+    }
+}
+
+/// An end time that is late or 0, mostly of an action that has committed.
+fn damage_end_time(r: &mut Random, damage: Damage, words: &mut [u64]) {
+    let (within_other, anyone) = (matches!(damage, EndTimeWithinOther), r.one_in(4));
+    let Some((kind, late)) = late_time(r, words, within_other) else { return };
+    let time = if within_other || r.one_in(2) { late } else { 0 };
+    let fits = |n: u64| kind_of(words, n) == kind && (anyone || field(words, n, STATE) == COMMITTED);
+    if let Some(n) = any_action(r, words, fits) {
+        row(words, n)[END] = time;
+    }
+}
+
+/// Reads of live actions at any times that the counters allow.
+fn damage_read_times(r: &mut Random, words: &mut [u64]) {
+    let [top, sub] = KINDS.map(|kind| counter(words, kind).saturating_add(1));
+    for n in 1..=started(words) {
+        let row = row(words, n);
+        for k in 0..ACCOUNTS {
+            if row[STATE] == LIVE && r.one_in(4) {
+                (row[READS + k], row[SUB_TIMES + k]) = (1 + r.below(top), r.below(sub));
+            }
+        }
+    }
+}
+
+/// An account that a subaction and its parent have read, the one with the smaller topaction time and the other with the
+/// smaller subaction time. Events do not lead there, as both counters rise. The parent may have a card.
+fn cross_reads(r: &mut Random, words: &mut [u64]) {
+    let [top, sub] = KINDS.map(|kind| counter(words, kind));
+    let fits = |n: u64| kind_of(words, n) == Kind::Sub && field(words, n, PARENT) < n && may_wait(words, n);
+    let Some(n) = any_action(r, words, fits) else { return };
+    let parent = field(words, n, PARENT);
+    let written: Vec<usize> = (0..ACCOUNTS).filter(|&k| field(words, parent, WRITES + k) != 0).collect();
+    let any = r.below(ACCOUNTS as u64) as usize;
+    let k = if written.is_empty() || r.one_in(2) { any } else { *r.pick(&written) };
+    let mut reads = [(0, sub), (top, 0)];
+    if r.one_in(2) {
+        reads.reverse();
+    }
+    for (n, (top_time, sub_time)) in [n, parent].into_iter().zip(reads) {
+        let row = row(words, n);
+        (row[READS + k], row[SUB_TIMES + k]) = (top_time.saturating_add(1), sub_time);
+    }
+}
+
+/// Anything where the subaction times of accounts that are not in the read set would stand.
+fn damage_unread_times(r: &mut Random, words: &mut [u64]) {
+    for n in 1..=started(words) {
+        let row = row(words, n);
+        for k in 0..ACCOUNTS {
+            if row[READS + k] == 0 && r.one_in(2) {
+                row[SUB_TIMES + k] = beyond(r, 0);
+            }
+        }
+    }
 }
 
 /// Most pending sums put at an end of 64 bits, or near it: of live actions, and of others where they have added.
@@ -178,67 +321,6 @@ pub fn any_opening(r: &mut Random) -> Vec<u8> {
     opening
 }
 
-/// The actions that may wait: live, and without a live child.
-fn may_wait(words: &[u64]) -> Vec<u64> {
-    let field = |n: u64, f: usize| words[ROW_WORDS * n as usize + f];
-    let live: Vec<u64> = (1..=started(words)).filter(|&n| field(n, STATE) == LIVE).collect();
-    let has_child = |n: u64| live.iter().any(|&m| field(m, PARENT) == n);
-    live.iter().copied().filter(|&n| !has_child(n)).collect()
-}
-
-/// A queue of some of those that may wait, in any order, with odd words: what a caller may lend though no events lead
-/// there. Its head can be ready.
-fn make_queue(r: &mut Random, words: &mut [u64], head_is_ready: bool) {
-    let mut numbers = may_wait(words);
-    let mut length = 0;
-    while !numbers.is_empty() && !r.one_in(8) {
-        let number = numbers.swap_remove(r.below(numbers.len() as u64) as usize);
-        length += 1;
-        let (verdict, readiness) = (*r.pick(&ODD), *r.pick(&ODD));
-        row(words, length)[QUEUED..].copy_from_slice(&[number, verdict, readiness]);
-    }
-    words[QUEUE_LENGTH] = length;
-    if head_is_ready && length > 0 {
-        row(words, 1)[READINESS] = *r.pick(&[1, 7, u64::MAX]);
-    }
-}
-
-/// Positions behind the tail, filled with anything, or with what an engine that reads on would take for entries.
-fn damage_entries_above(r: &mut Random, words: &mut [u64]) {
-    let (started, length) = (started(words), words[QUEUE_LENGTH].min(ACTIONS as u64));
-    for position in length + 1..=ACTIONS as u64 {
-        let number = if r.one_in(2) { r.next() } else { r.below(started + 1) };
-        row(words, position)[QUEUED..].copy_from_slice(&[number, *r.pick(&ODD), *r.pick(&ODD)]);
-    }
-}
-
-/// Damage to a queue, which is made first where there is none.
-fn damage_queue(r: &mut Random, kind: Damage, words: &mut [u64]) {
-    if words[QUEUE_LENGTH] == 0 {
-        make_queue(r, words, false);
-    }
-    let (started, length) = (started(words), words[QUEUE_LENGTH]);
-    if length == 0 || length >= ACTIONS as u64 {
-        return;
-    }
-    let position = 1 + r.below(length);
-    match kind {
-        QueueLonger => words[QUEUE_LENGTH] = (length + 1 + r.below(2)).min(ACTIONS as u64),
-        QueueShorter => words[QUEUE_LENGTH] = r.below(length),
-        EntryNobody => row(words, position)[QUEUED] = if r.one_in(2) { 0 } else { beyond(r, started + 1) },
-        EntryOther => row(words, position)[QUEUED] = 1 + r.below(started),
-        EntryTwice => {
-            let number = row(words, position)[QUEUED];
-            row(words, length + 1)[QUEUED] = number;
-            words[QUEUE_LENGTH] = length + 1;
-        }
-        _ => {
-            let row = row(words, position);
-            (row[VERDICT], row[READINESS]) = (*r.pick(&ODD), *r.pick(&ODD));
-        }
-    }
-}
-
 fn damage_unused_row(r: &mut Random, words: &mut [u64]) {
     let above = started(words) + 1 + r.below(3);
     if above <= ACTIONS as u64 {
@@ -246,21 +328,18 @@ fn damage_unused_row(r: &mut Random, words: &mut [u64]) {
     }
 }
 
-fn damage_action(r: &mut Random, kind: Damage, words: &mut [u64]) {
+fn damage_action(r: &mut Random, damage: Damage, words: &mut [u64]) {
     let started = started(words);
     if started == 0 {
         return;
     }
-    let counter = words[COUNTER];
     let n = 1 + r.below(started);
     let k = r.below(ACCOUNTS as u64) as usize;
-    match kind {
+    match damage {
         NoState => row(words, n)[STATE] = *r.pick(&[0, ABORTED + 1, ABORTED + 2, u64::MAX]),
         ParentNotBelow => row(words, n)[PARENT] = beyond(r, n),
         OtherParent => row(words, n)[PARENT] = r.below(n),
         OtherState => row(words, n)[STATE] = *r.pick(&[LIVE, COMMITTED, ABORTED]),
-        LateRead => row(words, n)[READS + k] = beyond(r, counter.saturating_add(1)),
-        EndTime => row(words, n)[END] = if r.one_in(2) { 0 } else { beyond(r, counter) },
         WriteEntry => row(words, n)[WRITES + k] = 2 + r.below(9),
         PendingAstray => {
             let c = r.below(CHARGE_ACCOUNTS as u64) as usize;

@@ -1,6 +1,7 @@
 //! Single events, and the other calls, on tables and stores that are damaged, or look so.
 
-use crate::calls::{list_call, open_and_two_numbers};
+use crate::before::Before;
+use crate::calls::{list_call, open_and_three_numbers};
 use crate::cause;
 use crate::coverage::Coverage;
 use crate::damage::{any_opening, damage, DAMAGES};
@@ -33,7 +34,7 @@ fn expected(lent: &Lent, e: &Event, seen: &mut Coverage) -> (Answer, Lent, Resul
     };
     let mut ledger = Ledger { table, base: lent.base.clone(), shadow: lent.shadow.clone() };
     if !misfit {
-        seen.soundness(ledger.table.soundness());
+        seen.soundness(&ledger.table);
     }
     let a = seen_event(&mut ledger, e, seen);
     seen.own_adds_refused += u64::from(refused_for_own_adds(&ledger, e, a));
@@ -43,12 +44,12 @@ fn expected(lent: &Lent, e: &Event, seen: &mut Coverage) -> (Answer, Lent, Resul
     (a, Lent { table: words, base: ledger.base, shadow: ledger.shadow }, look)
 }
 
-/// The second engine's answer; what it found in the queue counts where the call is not refused before it is asked.
+/// The second engine's answer; what it found counts where the call is not refused before the event is looked at.
 fn seen_event(ledger: &mut Ledger, e: &Event, seen: &mut Coverage) -> Answer {
-    let (calls, queue) = (ledger.stores_cause().is_none(), ledger.table.queue.clone());
+    let before = ledger.stores_cause().is_none().then(|| Before::new(&ledger.table, e));
     let outcome = ledger.outcome(e);
-    if calls {
-        seen.queues.event(&queue, &ledger.table.queue, &outcome);
+    if let Some(before) = before {
+        seen.outcome(&before, &ledger.table, &outcome);
     }
     outcome.answer
 }
@@ -69,7 +70,7 @@ fn refused_for_own_adds(ledger: &Ledger, e: &Event, a: Answer) -> bool {
     pending.checked_add(amount_in(&e.card)).is_some()
 }
 
-/// Every call on a table that a list left, after one or two kinds of damage.
+/// Every call on a table that a list left, after one damage or two.
 fn damaged(seed: u64, history: &[Event], seen: &mut Coverage) -> Compared {
     let mut r = Random::new(seed);
     let opening = Opening { base: BASE.to_vec(), shadow: vec![SHADOW_FILL; SHADOW_BYTES] };
@@ -80,12 +81,12 @@ fn damaged(seed: u64, history: &[Event], seen: &mut Coverage) -> Compared {
         ledger.event(e);
     }
     for _ in 0..1 + r.below(3) / 2 {
-        let kind = *r.pick(DAMAGES);
-        damage(&mut r, kind, &mut lent);
+        let which = *r.pick(DAMAGES);
+        damage(&mut r, which, &mut lent);
     }
     let guide = guide(&lent, &ledger);
     list_call(&mut r, &lent, &guide, seen)?;
-    open_and_two_numbers(&lent)?;
+    open_and_three_numbers(&lent)?;
     let report = tree(&lent, &any_opening(&mut r), seen)?;
     seen.damaged_tree(&report);
     let style = style(&mut r);

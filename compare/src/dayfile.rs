@@ -95,7 +95,8 @@ pub fn run_day(file: &[u8], shadow: Vec<u8>) -> (String, Option<Ledger>) {
     for (i, e) in day.events.iter().enumerate() {
         writeln!(lines, "{} {}", i + 1, ledger.sound_event(e)).expect("a string grows");
     }
-    writeln!(lines, "end {} {}", ledger.table.started, ledger.table.counter).expect("a string grows");
+    let (started, counters) = (ledger.table.started, ledger.table.counters);
+    writeln!(lines, "end {started} {} {}", counters.top.0, counters.sub.0).expect("a string grows");
     (lines, Some(ledger))
 }
 

@@ -103,8 +103,8 @@ fn any_parts(r: &mut Random) -> Parts {
     let mut lent =
         Lent { table: vec![r.next(); TABLE_WORDS], base: bytes(r, BASE_BYTES), shadow: bytes(r, SHADOW_BYTES) };
     if r.one_in(10) {
-        let kind = *r.pick(LENGTHS);
-        damage(r, kind, &mut lent);
+        let which = *r.pick(LENGTHS);
+        damage(r, which, &mut lent);
     }
     Parts { lent, opening: any_opening(r) }
 }

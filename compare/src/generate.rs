@@ -1,9 +1,11 @@
 //! Input for both engines: lists of events that get far, and day files, whole or damaged.
 
+use crate::before::Joins;
 use crate::dayfile::{counted_events, entry_at, MOST_EVENTS};
 use crate::header::*;
 use crate::model::{base_card, put_amount, Event, Ledger, State, Table};
 use crate::model::{CHARGE_ACCOUNTS, FIRST_CHARGE, MOST_ADDED, STORE};
+use crate::queue::Entry;
 use crate::random::Random;
 
 /// What a part of an event that means nothing mostly is below: a little beyond what has a meaning.
@@ -24,8 +26,10 @@ const SMALL: i64 = 100;
 const NEAR: u64 = 2 * MOST_ADDED as u64;
 /// One event in so many is by any live action, with live children or queued.
 const ANYONE: u64 = 12;
-/// One end in so many is a commit though the queue comes first.
+/// One end in so many is a commit though a queue comes first, and one commit in so many by any leaf.
 const OVERTAKES: u64 = 10;
+/// One event in so many uses what hardly a table but a lent one has: a head that is ready, or reads whose times tell.
+const RARE: u64 = 2;
 /// A day mostly has fewer events than this.
 const SHORT_DAY: u64 = 120;
 /// The ways in which a day file is damaged.
@@ -39,7 +43,7 @@ pub enum Shape {
     Mixed,
 }
 
-/// How they mostly end: by commits, through the queue, or by commits while nobody waits.
+/// How they mostly end: by commits, through their queues, or by commits where nobody of their kind waits.
 #[derive(Clone, Copy, PartialEq, Eq)]
 pub enum Ending {
     Commits,
@@ -120,20 +124,30 @@ struct Stage {
     free: Vec<u64>,
     /// Free and without a live child.
     leaves: Vec<u64>,
+    /// Leaves of a kind of which nobody is queued.
+    committers: Vec<u64>,
     queued: Vec<u64>,
     /// Queued and not ready.
     unjudged: Vec<u64>,
+    has_ready_head: bool,
+    /// Committers whose reads beside their parent's show how a join takes times.
+    telling: Vec<u64>,
 }
 
 impl Stage {
     fn of(t: &Table) -> Stage {
         let live: Vec<u64> = (1..=t.started).filter(|&n| t.action(n).state == State::Live).collect();
         let has_child = |n: u64| live.iter().any(|&m| t.action(m).parent == n);
-        let free: Vec<u64> = live.iter().copied().filter(|&n| !t.queue.is_queued(n)).collect();
-        let leaves = free.iter().copied().filter(|&n| !has_child(n)).collect();
-        let queued = t.queue.waiting().iter().map(|w| w.number).collect();
-        let unjudged = t.queue.waiting().iter().filter(|w| !w.is_ready()).map(|w| w.number).collect();
-        Stage { live, free, leaves, queued, unjudged }
+        let free: Vec<u64> = live.iter().copied().filter(|&n| !t.is_queued(n)).collect();
+        let leaves: Vec<u64> = free.iter().copied().filter(|&n| !has_child(n)).collect();
+        let may_commit = |n: &u64| t.queue(t.action(*n).kind()).length == 0;
+        let committers: Vec<u64> = leaves.iter().copied().filter(may_commit).collect();
+        let telling = committers.iter().copied().filter(|&n| Joins::of(t, n).is_telling()).collect();
+        let entries: Vec<&Entry> = t.queues.iter().flat_map(|queue| queue.waiting()).collect();
+        let queued = entries.iter().map(|w| w.number).collect();
+        let unjudged = entries.iter().filter(|w| !w.is_ready()).map(|w| w.number).collect();
+        let has_ready_head = t.queues.iter().any(|queue| queue.ready_head().is_some());
+        Stage { live, free, leaves, committers, queued, unjudged, has_ready_head, telling }
     }
 }
 
@@ -226,6 +240,12 @@ fn likely(r: &mut Random, w: &Ledger, style: Style) -> Event {
 }
 
 fn code(r: &mut Random, stage: &Stage, ending: Ending) -> u64 {
+    if stage.has_ready_head && r.one_in(RARE) {
+        return *r.pick(&[EVENT_ABORT, EVENT_JUDGE]);
+    }
+    if !stage.telling.is_empty() && r.one_in(RARE) {
+        return EVENT_COMMIT;
+    }
     if stage.leaves.is_empty() && !r.one_in(4) {
         return EVENT_JUDGE;
     }
@@ -243,8 +263,8 @@ fn code(r: &mut Random, stage: &Stage, ending: Ending) -> u64 {
 fn end(r: &mut Random, stage: &Stage, ending: Ending) -> u64 {
     let (waits, patience) = (stage.unjudged.len() as u64, ending.patience());
     let commits = match ending {
-        Ending::Commits if stage.queued.is_empty() => true,
-        Ending::Either if stage.queued.is_empty() => r.one_in(2),
+        Ending::Commits if !stage.committers.is_empty() => true,
+        Ending::Either if !stage.committers.is_empty() => r.one_in(2),
         _ => r.one_in(OVERTAKES),
     };
     if commits {
@@ -262,6 +282,10 @@ fn actor(r: &mut Random, stage: &Stage, code: u64) -> u64 {
     }
     match code {
         EVENT_JUDGE => pick_first(r, &[&stage.unjudged, &stage.queued, &stage.live]),
+        EVENT_COMMIT if !stage.telling.is_empty() => *r.pick(&stage.telling),
+        EVENT_COMMIT if stage.committers.len() < stage.leaves.len() && !r.one_in(OVERTAKES) => {
+            pick_first(r, &[&stage.committers, &stage.leaves])
+        }
         EVENT_ABORT if r.one_in(2) => pick_first(r, &[&stage.queued, &stage.leaves, &stage.live]),
         EVENT_ABORT if r.one_in(2) => *r.pick(&stage.live),
         _ => pick_first(r, &[&stage.leaves, &stage.live]),

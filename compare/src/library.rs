@@ -3,16 +3,18 @@
 
 use crate::cause;
 use crate::header::*;
-use crate::model::{Action, Answer, Event, Shown, State, Table, Version, CHARGE_ACCOUNTS};
+use crate::model::{Action, Answer, Event, Read, Shown, State, Table, Version, CHARGE_ACCOUNTS};
 use crate::queue::{Entry, Queue};
+use crate::times::{EndTime, Kind, Times, KINDS};
 use crate::tree::{Line, Tree};
 
-/// Words of row 0, the head.
+/// Words of row 0, the head. Counters and lengths are of each kind, in the order of `KINDS`.
 pub const STARTED: usize = 0;
-pub const COUNTER: usize = 1;
-pub const QUEUE_LENGTH: usize = 3;
-/// Words of row n, action n. Each set has a word for every account, from here on, and the pending sums and own adds
-/// one for every charge account.
+pub const COUNTERS: [usize; KINDS.len()] = [1, 2];
+pub const QUEUE_LENGTHS: [usize; KINDS.len()] = [3, 4];
+pub const HEAD_WORDS: usize = 5;
+/// Words of row n, action n. Each set and the subaction times of the reads have a word for every account, from here on,
+/// and the pending sums and own adds one for every charge account.
 pub const PARENT: usize = 0;
 pub const STATE: usize = 1;
 pub const END: usize = 2;
@@ -20,10 +22,14 @@ pub const READS: usize = 3;
 pub const WRITES: usize = READS + ACCOUNTS;
 pub const PENDING: usize = WRITES + ACCOUNTS;
 pub const OWN_ADDS: usize = PENDING + CHARGE_ACCOUNTS;
-/// Words of row i that are no part of action i: the entry at position i of the queue.
-pub const QUEUED: usize = OWN_ADDS + CHARGE_ACCOUNTS;
-pub const VERDICT: usize = QUEUED + 1;
-pub const READINESS: usize = QUEUED + 2;
+pub const SUB_TIMES: usize = ENTRIES[Kind::Sub as usize] + ENTRY_WORDS;
+/// Words of row i that are no part of action i: the entry at position i of each queue, from here on.
+pub const ENTRIES: [usize; KINDS.len()] = [OWN_ADDS + CHARGE_ACCOUNTS, OWN_ADDS + CHARGE_ACCOUNTS + ENTRY_WORDS];
+/// Words of an entry.
+pub const NUMBER: usize = 0;
+pub const VERDICT: usize = 1;
+pub const READINESS: usize = 2;
+pub const ENTRY_WORDS: usize = 3;
 /// What the state's word says.
 pub const LIVE: u64 = 1;
 pub const COMMITTED: u64 = 2;
@@ -32,7 +38,7 @@ pub const ABORTED: u64 = 3;
 pub const LINE_NUMBER: usize = 1;
 pub const LINE_FIGURES: usize = 3;
 
-const _: () = assert!(ROW_WORDS == READINESS + 1, "a row ends with an entry of the queue");
+const _: () = assert!(ROW_WORDS == SUB_TIMES + ACCOUNTS, "a row ends with the subaction times");
 const _: () = assert!(TABLE_WORDS == ROW_WORDS * (ACTIONS + 1), "a table is a head and a row for each action");
 const _: () = assert!(LINE_WORDS == LINE_FIGURES + 2 * CHARGE_ACCOUNTS, "a report's line ends with the figures");
 const _: () = assert!(BLOCK_AT == LINE_WORDS * ACTIONS, "a report has room for a line of each action");
@@ -46,7 +52,8 @@ const NO_NUMBER: u64 = u64::MAX;
 extern "C" {
     fn mundzavch_open(table: *mut u64, words: usize) -> u64;
     fn mundzavch_started(table: *const u64, words: usize) -> u64;
-    fn mundzavch_counter(table: *const u64, words: usize) -> u64;
+    fn mundzavch_top_counter(table: *const u64, words: usize) -> u64;
+    fn mundzavch_sub_counter(table: *const u64, words: usize) -> u64;
     fn mundzavch_event(
         table: *mut u64,
         words: usize,
@@ -207,10 +214,13 @@ impl Lent {
         unsafe { mundzavch_open(self.table.as_mut_ptr(), self.table.len()) }
     }
 
-    /// The last start and the counter.
-    pub fn two_numbers(&self) -> (u64, u64) {
+    /// The last start, and the counters.
+    pub fn three_numbers(&self) -> (u64, Times) {
         let (table, words) = (self.table.as_ptr(), self.table.len());
-        unsafe { (mundzavch_started(table, words), mundzavch_counter(table, words)) }
+        unsafe {
+            let counters = Times::new(mundzavch_top_counter(table, words), mundzavch_sub_counter(table, words));
+            (mundzavch_started(table, words), counters)
+        }
     }
 }
 
@@ -272,12 +282,27 @@ fn state_word(s: State) -> u64 {
     }
 }
 
+/// From the read entry, and from the word of the subaction time.
+fn read(entry: u64, sub_time: u64) -> Read {
+    match entry.checked_sub(1) {
+        None => Read::Not(sub_time),
+        Some(top_time) => Read::At(Times::new(top_time, sub_time)),
+    }
+}
+
+fn read_words(read: Read) -> [u64; 2] {
+    match read {
+        Read::Not(word) => [0, word],
+        Read::At(times) => [times.top.0 + 1, times.sub.0],
+    }
+}
+
 fn action(row: &[u64]) -> Action {
     let mut a = Action::new(row[PARENT]);
     a.state = state(row[STATE]);
-    a.end = row[END];
+    a.end = EndTime::new(a.kind(), row[END]);
     for k in 0..ACCOUNTS {
-        a.reads[k] = row[READS + k].checked_sub(1);
+        a.reads[k] = read(row[READS + k], row[SUB_TIMES + k]);
         a.writes[k] = row[WRITES + k];
     }
     for c in 0..CHARGE_ACCOUNTS {
@@ -287,8 +312,19 @@ fn action(row: &[u64]) -> Action {
     a
 }
 
-fn entry(row: &[u64]) -> Entry {
-    Entry { number: row[QUEUED], verdict: row[VERDICT], readiness: row[READINESS] }
+/// The words of an entry, within its row.
+pub fn entry_words(kind: Kind) -> std::ops::Range<usize> {
+    ENTRIES[kind as usize]..ENTRIES[kind as usize] + ENTRY_WORDS
+}
+
+fn entry(words: &[u64]) -> Entry {
+    Entry { number: words[NUMBER], verdict: words[VERDICT], readiness: words[READINESS] }
+}
+
+fn queue(words: &[u64], kind: Kind) -> Queue {
+    let rows = words.chunks(ROW_WORDS).skip(1);
+    let places = rows.map(|row| entry(&row[entry_words(kind)])).collect();
+    Queue { length: words[QUEUE_LENGTHS[kind as usize]], places }
 }
 
 /// The structs that a table's words stand for; None for a table of another length.
@@ -296,17 +332,18 @@ pub fn decode(words: &[u64]) -> Option<Table> {
     if words.len() != TABLE_WORDS {
         return None;
     }
-    let rows = || words.chunks(ROW_WORDS).skip(1);
-    let queue = Queue { length: words[QUEUE_LENGTH], places: rows().map(entry).collect() };
-    Some(Table { started: words[STARTED], counter: words[COUNTER], actions: rows().map(action).collect(), queue })
+    let actions = words.chunks(ROW_WORDS).skip(1).map(action).collect();
+    let [top, sub] = COUNTERS.map(|at| words[at]);
+    let queues = KINDS.map(|kind| queue(words, kind));
+    Some(Table { started: words[STARTED], counters: Times::new(top, sub), actions, queues })
 }
 
 fn put_action(a: &Action, row: &mut [u64]) {
     row[PARENT] = a.parent;
     row[STATE] = state_word(a.state);
-    row[END] = a.end;
+    row[END] = a.end.number();
     for k in 0..ACCOUNTS {
-        row[READS + k] = a.reads[k].map_or(0, |t| t + 1);
+        [row[READS + k], row[SUB_TIMES + k]] = read_words(a.reads[k]);
         row[WRITES + k] = a.writes[k];
     }
     for c in 0..CHARGE_ACCOUNTS {
@@ -315,15 +352,22 @@ fn put_action(a: &Action, row: &mut [u64]) {
     }
 }
 
+fn put_queue(queue: &Queue, kind: Kind, words: &mut [u64]) {
+    words[QUEUE_LENGTHS[kind as usize]] = queue.length;
+    for (row, w) in words.chunks_mut(ROW_WORDS).skip(1).zip(&queue.places) {
+        row[entry_words(kind)].copy_from_slice(&[w.number, w.verdict, w.readiness]);
+    }
+}
+
 /// The table written over words of the right length; the head's other words stay.
 pub fn encode(t: &Table, words: &mut [u64]) {
     words[STARTED] = t.started;
-    words[COUNTER] = t.counter;
-    words[QUEUE_LENGTH] = t.queue.length;
-    let rows = words.chunks_mut(ROW_WORDS).skip(1);
-    for (row, (a, w)) in rows.zip(t.actions.iter().zip(&t.queue.places)) {
+    for kind in KINDS {
+        words[COUNTERS[kind as usize]] = t.counters.number(kind);
+        put_queue(t.queue(kind), kind, words);
+    }
+    for (row, a) in words.chunks_mut(ROW_WORDS).skip(1).zip(&t.actions) {
         put_action(a, row);
-        row[QUEUED..].copy_from_slice(&[w.number, w.verdict, w.readiness]);
     }
 }
 

@@ -1,13 +1,14 @@
 //! Lists of events on both engines, event by event and in one call, with the tree that they leave, and held to the
 //! serial run.
 
+use crate::before::Before;
 use crate::cause;
 use crate::coverage::Coverage;
 use crate::dayfile::event_bytes;
 use crate::generate::{any_base, bytes, events, style};
-use crate::header::{ACCOUNTS, ANSWER_WORDS, CARD_BYTES, EVENT_COMMIT, SHADOW_BYTES, TABLE_WORDS};
+use crate::header::{ANSWER_WORDS, CARD_BYTES, SHADOW_BYTES, TABLE_WORDS};
 use crate::library::{answer, encode, Lent};
-use crate::model::{amount_in, base_card, Answer, Event, Leaver, Ledger, Shown, Table, FIRST_CHARGE, STORE};
+use crate::model::{amount_in, base_card, Answer, Event, Leaver, Ledger, Shown, FIRST_CHARGE};
 use crate::random::Random;
 use crate::same::{same, same_bytes, same_lent, same_words, Compared};
 use crate::serial::{added_in_r, serial_run, Fed, Given};
@@ -47,7 +48,7 @@ struct Played {
     /// The second engine's table as words.
     words: Vec<u64>,
     answers: Vec<Answer>,
-    /// For each event those that committed by leaving the queue at it. The library's answers don't say who; but its
+    /// For each event those that committed by leaving a queue at it. The library's answers don't say who; but its
     /// table has been the second engine's after every event.
     left: Vec<Vec<u64>>,
     given: HashMap<usize, Given>,
@@ -62,7 +63,7 @@ impl Played {
 
     /// One event: answer, table, both stores, and what a look shows.
     fn event(&mut self, e: &Event, seen: &mut Coverage) -> Compared {
-        let (behind, queue) = (reads_behind(&self.ledger.table, e), self.ledger.table.queue.clone());
+        let before = Before::new(&self.ledger.table, e);
         let (a, outcome) = (self.lent.event(e), self.ledger.outcome(e));
         same("answer", a, outcome.answer)?;
         encode(&self.ledger.table, &mut self.words);
@@ -76,10 +77,7 @@ impl Played {
         }
         seen.answer(e, a);
         seen.look(shown);
-        seen.queues.event(&queue, &self.ledger.table.queue, &outcome);
-        if let Answer::Committed(_) = a {
-            seen.reads_behind += behind;
-        }
+        seen.outcome(&before, &self.ledger.table, &outcome);
         self.answers.push(a);
         self.left.push(committed(&outcome.left));
         Ok(())
@@ -97,26 +95,13 @@ fn list(opening: &Opening, events: &[Event], seen: &mut Coverage) -> Compared {
         played.event(e, seen)?;
     }
     let Played { lent, ledger, answers, left, given, .. } = played;
-    same("the two numbers", lent.two_numbers(), (ledger.table.started, ledger.table.counter))?;
+    same("the three numbers", lent.three_numbers(), (ledger.table.started, ledger.table.counters))?;
     seen.lists += 1;
     tree_of_list(&lent, &opening.base, seen)?;
     let fed = Fed { events, answers: &answers, left: &left };
     held_to_serial_run(opening, fed, &given, &lent.base, seen)?;
     nothing_lost(opening, fed, &lent.base, seen)?;
     in_one_call(opening, events, &answers, &lent, seen)
-}
-
-/// How many reads a commit, if it passes, leaves behind at its parent's cards.
-fn reads_behind(table: &Table, e: &Event) -> u64 {
-    if e.code != EVENT_COMMIT || e.number == STORE || e.number > table.started {
-        return 0;
-    }
-    let child = table.action(e.number);
-    if child.parent == STORE {
-        return 0;
-    }
-    let parent = table.action(child.parent);
-    (0..ACCOUNTS).filter(|&k| child.reads[k].is_some() && parent.has_card(k)).count() as u64
 }
 
 /// The amount that a read was given, if any; None where the answer is no read's.

@@ -1,6 +1,7 @@
 //! compare: the library beside a second engine, by results (`check`) and by time (`bench`); or the second engine alone
 //! on a day file (`lines`, `tree`).
 
+mod before;
 mod bench;
 mod calls;
 mod cases;
@@ -8,21 +9,26 @@ mod cause;
 mod check;
 mod coverage;
 mod damage;
+mod damage_queues;
 mod damaged;
 mod dayfile;
 mod days;
 mod generate;
 mod header;
+mod kind_cases;
 mod library;
 mod lists;
 mod model;
 mod queue;
 mod queue_cases;
+mod queue_coverage;
 mod random;
 mod same;
 mod scripts;
 mod serial;
 mod shrink;
+mod sound;
+mod times;
 mod tree;
 mod trees;
 

@@ -3,7 +3,8 @@
 
 use crate::cause;
 use crate::header::*;
-use crate::queue::Queue;
+use crate::queue::{Entry, Queue};
+use crate::times::{EndTime, Kind, Times, KINDS};
 
 const _: () = assert!(BASE_BYTES == ACCOUNTS * CARD_BYTES, "the base store has a card for each account");
 const _: () = assert!(SHADOW_BYTES == ACTIONS * BASE_BYTES, "the shadow store has as much for each action");
@@ -48,13 +49,30 @@ pub enum State {
     Unknown(u64),
 }
 
+/// Whether an account is in an action's read set.
+#[derive(Clone, Copy, PartialEq, Eq, Debug)]
+pub enum Read {
+    /// It is not. The word is what stands in place of the subaction time, any in a lent table, and nobody looks at it.
+    Not(u64),
+    /// It is, with the times of the first read that counts.
+    At(Times),
+}
+
+impl Read {
+    pub fn times(self) -> Option<Times> {
+        match self {
+            Read::Not(_) => None,
+            Read::At(times) => Some(times),
+        }
+    }
+}
+
 #[derive(Clone, PartialEq, Eq, Debug)]
 pub struct Action {
     pub parent: u64,
     pub state: State,
-    pub end: u64,
-    /// The time of the first read that counts, for each account in the read set.
-    pub reads: [Option<u64>; ACCOUNTS],
+    pub end: EndTime,
+    pub reads: [Read; ACCOUNTS],
     /// Not 0 for each account in the write set.
     pub writes: [u64; ACCOUNTS],
     /// The pending sum of each charge account.
@@ -65,9 +83,14 @@ pub struct Action {
 
 impl Action {
     pub fn new(parent: u64) -> Action {
-        let (reads, writes) = ([None; ACCOUNTS], [0; ACCOUNTS]);
+        let end = EndTime::new(Kind::under(parent), 0);
+        let (reads, writes) = ([Read::Not(0); ACCOUNTS], [0; ACCOUNTS]);
         let (pending, own_adds) = ([0; CHARGE_ACCOUNTS], [0; CHARGE_ACCOUNTS]);
-        Action { parent, state: State::Live, end: 0, reads, writes, pending, own_adds }
+        Action { parent, state: State::Live, end, reads, writes, pending, own_adds }
+    }
+
+    pub fn kind(&self) -> Kind {
+        Kind::under(self.parent)
     }
 
     /// Whether it has a card of its own for the account; of a charge account nobody has one.
@@ -75,7 +98,11 @@ impl Action {
         charge_of(account).is_none() && self.writes[account] != 0
     }
 
-    fn has_charged(&self, charge: usize) -> bool {
+    fn has_read(&self, account: usize) -> bool {
+        self.reads[account].times().is_some()
+    }
+
+    pub fn has_charged(&self, charge: usize) -> bool {
         self.writes[FIRST_CHARGE + charge] != 0
     }
 
@@ -83,7 +110,7 @@ impl Action {
         self.writes.iter().any(|&w| w != 0)
     }
 
-    fn is_writer(&self) -> bool {
+    pub fn is_writer(&self) -> bool {
         self.state == State::Committed && self.wrote_something()
     }
 }
@@ -98,35 +125,18 @@ pub struct Version {
 #[derive(Clone, PartialEq, Eq, Debug)]
 pub struct Table {
     pub started: u64,
-    pub counter: u64,
+    pub counters: Times,
     /// Action n is the entry n - 1; entries above the last start may hold anything.
     pub actions: Vec<Action>,
-    pub queue: Queue,
-}
-
-/// Why a table is not sound.
-#[derive(Clone, Copy, PartialEq, Eq, Debug)]
-pub enum Unsound {
-    Started,
-    Counter,
-    State,
-    ParentNotBelow,
-    ParentNotLive,
-    ReadTime,
-    EndTime,
-    EndTimeTwice,
-    Pending,
-    QueueLength,
-    QueuedNobody,
-    QueuedNotLive,
-    QueuedChildLive,
-    QueuedTwice,
+    /// The queue of each kind, in the order of `KINDS`.
+    pub queues: [Queue; KINDS.len()],
 }
 
 impl Table {
     pub fn new() -> Table {
         let nothing = Action { state: State::Unknown(0), ..Action::new(STORE) };
-        Table { started: 0, counter: 0, actions: vec![nothing; ACTIONS], queue: Queue::new() }
+        let queues = KINDS.map(|_| Queue::new());
+        Table { started: 0, counters: Times::ZERO, actions: vec![nothing; ACTIONS], queues }
     }
 
     pub fn action(&self, n: u64) -> &Action {
@@ -141,74 +151,29 @@ impl Table {
         &self.actions[..self.started as usize]
     }
 
-    pub fn soundness(&self) -> Result<(), Unsound> {
-        if self.started > ACTIONS as u64 {
-            return Err(Unsound::Started);
-        }
-        let begun = self.begun();
-        if self.counter > begun.iter().filter(|a| a.state == State::Committed).count() as u64 {
-            return Err(Unsound::Counter);
-        }
-        for (i, a) in begun.iter().enumerate() {
-            self.action_soundness(i, a)?;
-        }
-        self.queue_soundness()
+    pub fn queue(&self, kind: Kind) -> &Queue {
+        &self.queues[kind as usize]
     }
 
-    fn action_soundness(&self, i: usize, a: &Action) -> Result<(), Unsound> {
-        if let State::Unknown(_) = a.state {
-            return Err(Unsound::State);
-        }
-        if a.parent > i as u64 {
-            return Err(Unsound::ParentNotBelow);
-        }
-        if a.state == State::Live {
-            if a.parent != STORE && self.action(a.parent).state != State::Live {
-                return Err(Unsound::ParentNotLive);
-            }
-            if a.reads.iter().flatten().any(|&t| t > self.counter) {
-                return Err(Unsound::ReadTime);
-            }
-        }
-        if a.is_writer() {
-            if a.end < 1 || a.end > self.counter {
-                return Err(Unsound::EndTime);
-            }
-            let twin = |b: &Action| b.end == a.end && b.parent == a.parent && b.is_writer();
-            if self.actions[..i].iter().any(twin) {
-                return Err(Unsound::EndTimeTwice);
-            }
-        }
-        if (0..CHARGE_ACCOUNTS).any(|c| a.pending[c] != 0 && !a.has_charged(c)) {
-            return Err(Unsound::Pending);
-        }
-        Ok(())
+    pub fn queue_mut(&mut self, kind: Kind) -> &mut Queue {
+        &mut self.queues[kind as usize]
     }
 
-    fn queue_soundness(&self) -> Result<(), Unsound> {
-        if self.queue.length > ACTIONS as u64 {
-            return Err(Unsound::QueueLength);
-        }
-        let numbers: Vec<u64> = self.queue.waiting().iter().map(|w| w.number).collect();
-        for &n in &numbers {
-            if n == STORE || n > self.started {
-                return Err(Unsound::QueuedNobody);
-            }
-            if self.action(n).state != State::Live {
-                return Err(Unsound::QueuedNotLive);
-            }
-            if self.has_live_child(n) {
-                return Err(Unsound::QueuedChildLive);
-            }
-        }
-        let again = |i: usize| numbers[..i].contains(&numbers[i]);
-        if (0..numbers.len()).any(again) {
-            return Err(Unsound::QueuedTwice);
-        }
-        Ok(())
+    /// The queue of an action's kind.
+    fn queue_of(&self, n: u64) -> &Queue {
+        self.queue(self.action(n).kind())
     }
 
-    fn has_live_child(&self, n: u64) -> bool {
+    fn queue_of_mut(&mut self, n: u64) -> &mut Queue {
+        self.queue_mut(self.action(n).kind())
+    }
+
+    /// Whether it waits in either queue.
+    pub fn is_queued(&self, n: u64) -> bool {
+        self.queues.iter().any(|queue| queue.is_queued(n))
+    }
+
+    pub fn has_live_child(&self, n: u64) -> bool {
         self.begun().iter().any(|a| a.parent == n && a.state == State::Live)
     }
 
@@ -242,8 +207,8 @@ impl Table {
         sum
     }
 
-    /// The first clash: by end time, then by account.
-    pub fn first_clash(&self, n: u64) -> Option<(u64, u64)> {
+    /// The first clash: by end time, then by account. The records are of one kind, so their end times are compared.
+    pub fn first_clash(&self, n: u64) -> Option<(EndTime, u64)> {
         let me = self.action(n);
         let mut first = None;
         for b in self.begun() {
@@ -251,22 +216,21 @@ impl Table {
                 continue;
             }
             for k in 0..ACCOUNTS {
-                let read_before = matches!(me.reads[k], Some(t) if t < b.end);
-                if b.writes[k] != 0 && read_before {
-                    let clash = (b.end, k as u64);
-                    first = Some(first.map_or(clash, |f: (u64, u64)| f.min(clash)));
+                let read_before = matches!(me.reads[k], Read::At(times) if b.end.is_after(times));
+                let clash = (b.end, k as u64);
+                if b.writes[k] != 0 && read_before && first.is_none_or(|f| clash < f) {
+                    first = Some(clash);
                 }
             }
         }
         first
     }
 
-    /// Whether an action that enters the queue now has failed: for a clash, or for what a queued sibling has written.
+    /// Whether an action that enters its queue now has failed: for a clash, or for what a queued sibling has written.
     fn fails_at_enter(&self, n: u64) -> bool {
         let me = self.action(n);
-        let meets =
-            |b: &Action| b.parent == me.parent && (0..ACCOUNTS).any(|k| b.writes[k] != 0 && me.reads[k].is_some());
-        self.first_clash(n).is_some() || self.queue.waiting().iter().any(|w| meets(self.action(w.number)))
+        let meets = |b: &Action| b.parent == me.parent && (0..ACCOUNTS).any(|k| b.writes[k] != 0 && me.has_read(k));
+        self.first_clash(n).is_some() || self.queue_of(n).waiting().iter().any(|w| meets(self.action(w.number)))
     }
 }
 
@@ -285,28 +249,30 @@ pub enum Answer {
     /// The nearest version.
     Read(Version),
     Written,
+    /// The end time's number.
     Committed(u64),
+    /// The first clash: its end time's number, its account.
     Failed(u64, u64),
-    /// How many became aborted, and how many then left the queue.
+    /// How many became aborted, and how many then left the two queues.
     Aborted(u64, u64),
     Added,
     /// The nearest version of a charge account, and the sum there.
     ReadSum(Version, i64),
     Entered,
-    /// How many then left the queue.
+    /// How many then left its queue.
     Ready(u64),
-    /// Of a judge: how many then left the queue.
+    /// Of a judge: how many then left its queue.
     JudgedFailed(u64),
 }
 
-/// An action that left the queue from its head; one that did not commit was aborted for its sums.
+/// An action that left a queue from its head; one that did not commit was aborted for its sums.
 #[derive(Clone, Copy, PartialEq, Eq, Debug)]
 pub struct Leaver {
     pub number: u64,
     pub committed: bool,
 }
 
-/// An event's answer, and who left the queue at it, in this order. No answer says who.
+/// An event's answer, and who left a queue at it, in this order. No answer says who.
 pub struct Outcome {
     pub answer: Answer,
     pub left: Vec<Leaver>,
@@ -357,7 +323,7 @@ impl Ledger {
         if self.base.len() != BASE_BYTES || self.shadow.len() != SHADOW_BYTES {
             return Some(cause::STORE_LENGTH);
         }
-        self.table.soundness().err().map(|_| cause::UNSOUND)
+        (!self.table.is_sound()).then_some(cause::UNSOUND)
     }
 
     /// The causes 3 to 8, 13, 14, 9, 16, 17 and 18, in this order: all that are left but 15, which is asked where a sum
@@ -386,14 +352,14 @@ impl Ledger {
         (asks && self.table.has_live_child(e.number)).then_some(cause::CHILD_LIVE)
     }
 
-    /// The causes 16, 17 and 18.
+    /// The causes 16, 17 and 18. The first asks both queues, the others that of the action's kind.
     fn queue_cause(&self, e: &Event) -> Option<u64> {
-        let queue = &self.table.queue;
+        let (t, n) = (&self.table, e.number);
         match e.code {
             EVENT_ABORT => None,
-            EVENT_JUDGE => queue.entry(e.number).is_none_or(|w| w.is_ready()).then_some(cause::NOTHING_TO_JUDGE),
-            _ if queue.is_queued(e.number) => Some(cause::QUEUED),
-            EVENT_COMMIT => (queue.length != 0).then_some(cause::QUEUE_FIRST),
+            EVENT_JUDGE => t.queue_of(n).entry(n).is_none_or(Entry::is_ready).then_some(cause::NOTHING_TO_JUDGE),
+            _ if t.is_queued(n) => Some(cause::QUEUED),
+            EVENT_COMMIT => (t.queue_of(n).length != 0).then_some(cause::QUEUE_FIRST),
             _ => None,
         }
     }
@@ -427,7 +393,7 @@ impl Ledger {
         }
     }
 
-    /// An event that does not try the queue's head.
+    /// An event that does not try a queue's head.
     fn beside_head(&mut self, e: &Event) -> Result<Answer, u64> {
         match e.code {
             EVENT_START => Ok(self.start(e.number)),
@@ -455,10 +421,10 @@ impl Ledger {
 
     fn read(&mut self, n: u64, account: usize) -> Result<Answer, u64> {
         let sum = self.sum_seen(n, account)?;
-        let now = self.table.counter;
+        let now = self.table.counters;
         let me = self.table.action_mut(n);
-        if !me.has_card(account) {
-            me.reads[account].get_or_insert(now);
+        if !me.has_card(account) && !me.has_read(account) {
+            me.reads[account] = Read::At(now);
         }
         let version = self.table.nearest(n, account);
         Ok(sum.map_or(Answer::Read(version), |sum| Answer::ReadSum(version, sum)))
@@ -483,19 +449,16 @@ impl Ledger {
     fn commit(&mut self, n: u64) -> Result<Answer, u64> {
         if let Some((end, account)) = self.table.first_clash(n) {
             self.table.action_mut(n).state = State::Aborted;
-            return Ok(Answer::Failed(end, account));
+            return Ok(Answer::Failed(end.number(), account));
         }
         let sums = self.sums_left(self.table.action(n))?;
-        Ok(Answer::Committed(self.pass(n, &sums)))
+        Ok(Answer::Committed(self.pass(n, &sums).number()))
     }
 
     /// A commit that passes and leaves these sums; its end time.
-    fn pass(&mut self, n: u64, sums: &Sums) -> u64 {
-        let wrote = self.table.action(n).wrote_something();
-        if wrote {
-            self.table.counter += 1;
-        }
-        let end = if wrote { self.table.counter } else { 0 };
+    fn pass(&mut self, n: u64, sums: &Sums) -> EndTime {
+        let (kind, wrote) = (self.table.action(n).kind(), self.table.action(n).wrote_something());
+        let end = if wrote { self.table.counters.raise(kind) } else { EndTime::new(kind, 0) };
         let me = self.table.action_mut(n);
         me.state = State::Committed;
         me.end = end;
@@ -544,30 +507,32 @@ impl Ledger {
 
     fn enter(&mut self, n: u64) -> Answer {
         let failed = self.table.fails_at_enter(n);
-        self.table.queue.put_behind(n, failed);
+        self.table.queue_of_mut(n).put_behind(n, failed);
         Answer::Entered
     }
 
     /// Goes by the verdict that the entry has, whatever has come about since it was put there.
     fn judge(&mut self, n: u64) -> Outcome {
-        let failed = self.table.queue.entry(n).is_some_and(|w| w.has_failed());
+        let kind = self.table.action(n).kind();
+        let queue = self.table.queue_mut(kind);
+        let failed = queue.entry(n).is_some_and(Entry::has_failed);
         if failed {
-            self.table.queue.take_out(|m| m == n);
+            queue.take_out(|m| m == n);
             self.table.action_mut(n).state = State::Aborted;
         } else {
-            self.table.queue.make_ready(n);
+            queue.make_ready(n);
         }
-        let left = self.try_head();
+        let left = self.try_head(kind);
         let count = left.len() as u64;
         let answer = if failed { Answer::JudgedFailed(count) } else { Answer::Ready(count) };
         Outcome { answer, left }
     }
 
-    /// Lets the head leave while it is ready, one after the other. Of each only its sums are asked.
-    fn try_head(&mut self) -> Vec<Leaver> {
+    /// Lets the head of a queue leave while it is ready, one after the other. Of each only its sums are asked.
+    fn try_head(&mut self, kind: Kind) -> Vec<Leaver> {
         let mut left = Vec::new();
-        while let Some(number) = self.table.queue.ready_head() {
-            self.table.queue.take_out(|m| m == number);
+        while let Some(number) = self.table.queue(kind).ready_head() {
+            self.table.queue_mut(kind).take_out(|m| m == number);
             let sums = self.sums_left(self.table.action(number));
             match &sums {
                 Ok(sums) => {
@@ -587,8 +552,11 @@ impl Ledger {
         for &m in &fallen {
             self.table.action_mut(m).state = State::Aborted;
         }
-        self.table.queue.take_out(|m| fallen.contains(&m));
-        let left = self.try_head();
+        for queue in &mut self.table.queues {
+            queue.take_out(|m| fallen.contains(&m));
+        }
+        let mut left = self.try_head(Kind::Top);
+        left.extend(self.try_head(Kind::Sub));
         Outcome { answer: Answer::Aborted(fallen.len() as u64, left.len() as u64), left }
     }
 
@@ -632,14 +600,15 @@ fn account_cause(e: &Event) -> Option<u64> {
     (adds && !is_small).then_some(cause::AMOUNT)
 }
 
-/// The union of both sets; of two read times the smaller. Where the parent has a card of its own already, its child's read
-/// stays behind.
+/// The union of both sets; of two read times the smaller, for each kind apart. Where the parent has a card of its own
+/// already, its child's read stays behind.
 fn join(parent: &mut Action, child: &Action) {
     for k in 0..ACCOUNTS {
         if !parent.has_card(k) {
             parent.reads[k] = match (parent.reads[k], child.reads[k]) {
-                (Some(a), Some(b)) => Some(a.min(b)),
-                (a, b) => a.or(b),
+                (own, Read::Not(_)) => own,
+                (Read::Not(_), childs) => childs,
+                (Read::At(own), Read::At(childs)) => Read::At(own.smaller(childs)),
             };
         }
         if child.writes[k] != 0 {

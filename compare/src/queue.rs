@@ -1,4 +1,5 @@
-//! The queue of the second engine (docs/RULES.md, 1.10 and 2.13): who waits, in which order, and with which words.
+//! A queue of the second engine (docs/RULES.md, 1.10 and 2.13): who waits, in which order, and with which words. It
+//! doesn't know which of a table's two it is.
 
 use crate::header::ACTIONS;
 

@@ -1,12 +1,14 @@
 //! Cases as scripts, in the words of docs/RULES.md, 13. A step is an event, with its answer behind ` = ` where that is
 //! not just started, written, added or entered; or something that is put into what is lent, or asked of it, between
-//! events. Both engines are held to every step.
+//! events: `entry` and `length` are of the topactions' queue, `sub-entry` and `sub-length` of the subactions'. Both
+//! engines are held to every step.
 
 use crate::header::*;
 use crate::library::{decode, encode, Lent, ABORTED, COMMITTED, LIVE};
-use crate::library::{COUNTER, END, PENDING, QUEUED, QUEUE_LENGTH, STATE};
+use crate::library::{COUNTERS, END, ENTRIES, ENTRY_WORDS, PENDING, QUEUE_LENGTHS, READS, STATE, SUB_TIMES};
 use crate::model::{amount_in, base_card, put_amount, Answer, Event, Ledger, Shown, Table, FIRST_CHARGE};
 use crate::same::{same, same_lent, Compared};
+use crate::times::Kind;
 
 /// Both engines on one ledger, which is the same after every step.
 struct Both {
@@ -55,6 +57,12 @@ fn state(word: u64) -> &'static str {
 
 fn joined(words: impl IntoIterator<Item = u64>) -> String {
     words.into_iter().map(|w| w.to_string()).collect::<Vec<_>>().join(" ")
+}
+
+/// Of which queue a step speaks.
+fn queue(verb: &str) -> usize {
+    let kind = if verb.starts_with("sub-") { Kind::Sub } else { Kind::Top };
+    kind as usize
 }
 
 /// A card's byte, where all are the same.
@@ -107,10 +115,20 @@ impl Both {
                 *self.word(n, PENDING + account as usize - FIRST_CHARGE) = sum as i64 as u64
             }
             ("end", &[n, time]) => *self.word(n, END) = time as u64,
-            ("length", &[length]) => *self.word(0, QUEUE_LENGTH) = length as u64,
-            ("entry", &[position, number, verdict, readiness]) => {
+            ("counters", &[top, sub]) => {
+                for (at, counter) in COUNTERS.into_iter().zip([top, sub]) {
+                    *self.word(0, at) = counter as u64;
+                }
+            }
+            ("times", &[n, account, top, sub]) => {
+                *self.word(n, READS + account as usize) = top as u64 + 1;
+                *self.word(n, SUB_TIMES + account as usize) = sub as u64;
+            }
+            ("sub-time", &[n, account, time]) => *self.word(n, SUB_TIMES + account as usize) = time as u64,
+            ("length" | "sub-length", &[length]) => *self.word(0, QUEUE_LENGTHS[queue(verb)]) = length as u64,
+            ("entry" | "sub-entry", &[position, number, verdict, readiness]) => {
                 for (i, w) in [number, verdict, readiness].into_iter().enumerate() {
-                    *self.word(position, QUEUED + i) = w as u64;
+                    *self.word(position, ENTRIES[queue(verb)] + i) = w as u64;
                 }
             }
             _ => return false,
@@ -120,16 +138,28 @@ impl Both {
         true
     }
 
+    fn times_said(&mut self, n: i128, account: usize) -> String {
+        match (*self.word(n, READS + account), *self.word(n, SUB_TIMES + account)) {
+            (0, _) => "none".to_string(),
+            (entry, sub_time) => joined([entry - 1, sub_time]),
+        }
+    }
+
     /// What is asked, if the step asks something.
     fn asked(&mut self, verb: &str, numbers: &[i128]) -> Result<Option<String>, String> {
         let found = match (verb, numbers) {
             ("amount", &[account]) => amount_in(&self.lent.base[base_card(account as usize)]).to_string(),
             ("card", &[account]) => fill(&self.lent.base[base_card(account as usize)]),
-            ("counter", []) => self.word(0, COUNTER).to_string(),
-            ("length", []) => self.word(0, QUEUE_LENGTH).to_string(),
+            ("counters", []) => joined(COUNTERS.map(|at| *self.word(0, at))),
+            ("length" | "sub-length", []) => self.word(0, QUEUE_LENGTHS[queue(verb)]).to_string(),
             ("state", &[n]) => state(*self.word(n, STATE)).to_string(),
             ("end", &[n]) => self.word(n, END).to_string(),
-            ("entry", &[position]) => joined((QUEUED..ROW_WORDS).map(|field| *self.word(position, field))),
+            ("times", &[n, account]) => self.times_said(n, account as usize),
+            ("sub-time", &[n, account]) => self.word(n, SUB_TIMES + account as usize).to_string(),
+            ("entry" | "sub-entry", &[position]) => {
+                let first = ENTRIES[queue(verb)];
+                joined((first..first + ENTRY_WORDS).map(|field| *self.word(position, field)))
+            }
             ("look", &[n, account]) => {
                 let (n, account) = (n as u64, account as u64);
                 let shown = self.lent.look(n, account);
@@ -178,5 +208,6 @@ pub fn check_script(script: &str) -> Compared {
     for step in script.split(';').map(str::trim) {
         both.step(step).map_err(|text| format!("{text}\nat the step {step}"))?;
     }
-    Ok(())
+    let table = &both.ledger.table;
+    same("the three numbers", both.lent.three_numbers(), (table.started, table.counters))
 }

@@ -1,4 +1,4 @@
-//! The serial run of R (docs/RULES.md, 6), from the events, the answers they got, who committed by leaving the queue at
+//! The serial run of R (docs/RULES.md, 6), from the events, the answers they got, who committed by leaving a queue at
 //! each, and the opening base store alone.
 
 use crate::header::ACCOUNTS;
@@ -7,7 +7,7 @@ use crate::model::{CHARGE_ACCOUNTS, FIRST_CHARGE, STORE};
 use std::collections::HashMap;
 
 /// What it is fed beside the opening store. Of each event there is an answer, and a list of those that committed by
-/// leaving the queue at it, in the order in which they left.
+/// leaving a queue at it, in the order in which they left.
 #[derive(Clone, Copy)]
 pub struct Fed<'a> {
     pub events: &'a [Event],
