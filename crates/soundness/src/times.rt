@@ -15,7 +15,7 @@ use rules::store::ACCOUNTS;
 use rules::table::SUB;
 use rules::table::TOP;
 
-// The latest time alone is asked, so that the loop has no branch; it is the counter itself where no read is later.
+// The latest time alone is compared with the counter; it is the counter itself where no read is later.
 fn has_times_in(table: &[u64], n: u64, h: u64) -> bool
     requires { ⌜ HasRow (now table) n ⌝ }
     requires { ⌜ IsKind h ⌝ }

@@ -119,10 +119,10 @@ pub(crate) fn later_sub_read(table: &[u64], n: u64, k: u64, t: SubTime) -> SubTi
     requires { ⌜ IsAccount k ⌝ }
     ensures { λ r. ⌜ r .0 ≡ laterRead (now (table .entry)) subKind n k (t .0) ⌝ }
 {
-    let read = sub_read(table, n, k);
     if !has_read(table, n, k) {
         return t;
     }
+    let read = sub_read(table, n, k);
     if sub_before(read, t) { t } else { read }
 }
 
