@@ -1,3 +1,4 @@
--- Parts of what the calls on the queues give and leave.
+-- What the calls on the queues ask of their callers, and parts of what they give and leave.
+pub mod Asked
 pub mod Met
 pub mod Reveal

@@ -1,10 +1,9 @@
 // An action enters the queue of its kind: its verdict is settled now, and nobody sees it yet.
 ghost use mathlib.Core.Path.{_≡_};
-ghost use mathlib.Core.Bool.{false};
 ghost use Rattle.rules.specs.Table.{kindOf};
 ghost use Rattle.rules.specs.Sound.{MayWait, Sound};
-ghost use Rattle.rules.specs.Queue.{isWaiting};
 ghost use Rattle.rules.specs.Step.{enterTable};
+ghost use Rattle.judging.specs.Asked.{IsUnqueued};
 use crate::verdict::verdict;
 use queue::change::put_tail;
 use rows::fields::kind_of;
@@ -12,7 +11,7 @@ use rows::fields::kind_of;
 pub fn enter(table: &mut [u64], n: u64)
     requires { ⌜ Sound (now table) ⌝ }
     requires { ⌜ MayWait (now table) (kindOf (now table) n) n ⌝ }
-    requires { ⌜ isWaiting (now table) n ≡ false ⌝ }
+    requires { ⌜ IsUnqueued (now table) n ⌝ }
     ensures { λ r. ⌜ now (table .exit) ≡ enterTable (now (table .entry)) n ⌝ }
 {
     let h = kind_of(table, n);

@@ -1,12 +1,10 @@
 // A verdict revealed: the action fails or becomes ready, and the head of its queue is tried.
 ghost use mathlib.Core.Path.{_≡_};
-ghost use mathlib.Core.Bool.{true};
 ghost use Rattle.rules.specs.Card.{StoresFit};
 ghost use Rattle.rules.specs.Ledger.{ledgerOf};
 ghost use Rattle.rules.specs.Sound.{Sound};
-ghost use Rattle.rules.specs.Table.{kindOf};
-ghost use Rattle.rules.specs.Queue.{isQueued};
 ghost use Rattle.rules.specs.Step.{outcomeOf, judge};
+ghost use Rattle.judging.specs.Asked.{IsQueued};
 ghost use Rattle.judging.specs.Reveal.{revealedTable};
 use crate::leave::leave;
 use queue::change::mark_ready;
@@ -19,7 +17,7 @@ use rules::table::ABORTED;
 
 fn reveal(table: &mut [u64], n: u64, failed: bool)
     requires { ⌜ Sound (now table) ⌝ }
-    requires { ⌜ isQueued (now table) (kindOf (now table) n) n ≡ true ⌝ }
+    requires { ⌜ IsQueued (now table) n ⌝ }
     ensures { λ r. ⌜ now (table .exit) ≡ revealedTable (now (table .entry)) n failed ⌝ }
 {
     let h = kind_of(table, n);
@@ -34,7 +32,7 @@ fn reveal(table: &mut [u64], n: u64, failed: bool)
 pub fn judge(table: &mut [u64], base: &mut [u8], shadow: &mut [u8], n: u64) -> Answer
     requires { ⌜ Sound (now table) ⌝ }
     requires { ⌜ StoresFit (now base) (now shadow) ⌝ }
-    requires { ⌜ isQueued (now table) (kindOf (now table) n) n ≡ true ⌝ }
+    requires { ⌜ IsQueued (now table) n ⌝ }
     ensures { λ r. ⌜ outcomeOf r (now (table .exit)) (now (base .exit)) (now (shadow .exit))
         ≡ judge (ledgerOf (now (table .entry)) (now (base .entry)) (now (shadow .entry))) n ⌝ }
 {

@@ -1,12 +1,11 @@
 // Those who leave a queue: while its head is ready.
 ghost use mathlib.Core.Path.{_≡_};
-ghost use mathlib.Core.Bool.{true};
 ghost use Rattle.rules.specs.Card.{StoresFit};
 ghost use Rattle.rules.specs.Ledger.{ledgerOf};
 ghost use Rattle.rules.specs.Sound.{Sound};
 ghost use Rattle.rules.specs.Kind.{IsKind};
-ghost use Rattle.rules.specs.Queue.{isHeadReady};
 ghost use Rattle.rules.specs.Step.{headLeft, leave, leaveBoth};
+ghost use Rattle.judging.specs.Asked.{HasReadyHead};
 use commits::finish::finish;
 use queue::change::take_out;
 use queue::find::head;
@@ -19,7 +18,7 @@ fn leave_head(table: &mut [u64], base: &mut [u8], shadow: &mut [u8], h: u64)
     requires { ⌜ Sound (now table) ⌝ }
     requires { ⌜ IsKind h ⌝ }
     requires { ⌜ StoresFit (now base) (now shadow) ⌝ }
-    requires { ⌜ isHeadReady (now table) h ≡ true ⌝ }
+    requires { ⌜ HasReadyHead (now table) h ⌝ }
     ensures { λ r. ⌜ ledgerOf (now (table .exit)) (now (base .exit)) (now (shadow .exit))
         ≡ headLeft h (ledgerOf (now (table .entry)) (now (base .entry)) (now (shadow .entry))) ⌝ }
 {
