@@ -13,12 +13,17 @@ fn print_day(name: &[u8]) {
     libc::close(again);
 }
 
-fn main() {
+// Worked cases of docs/RULES.md.
+fn print_cases() {
     print_day(b"case-04.day");
     print_day(b"case-11.day");
     print_day(b"case-14.day");
     print_day(b"case-31.day");
     print_day(b"case-35.day");
+}
+
+// Files that are refused.
+fn print_faults() {
     print_day(b"fault-empty.day");
     print_day(b"fault-33-cards.day");
     print_day(b"fault-cards-cut.day");
@@ -32,6 +37,10 @@ fn main() {
     print_day(b"fault-account-32.day");
     print_day(b"fault-cut-before-accounts.day");
     print_day(b"fault-too-long.day");
+}
+
+// Nested and overlapping actions.
+fn print_actions() {
     print_day(b"deep.day");
     print_day(b"moves-up.day");
     print_day(b"siblings-that-clash.day");
@@ -39,11 +48,19 @@ fn main() {
     print_day(b"all-opening-cards.day");
     print_day(b"aborted-trees.day");
     print_day(b"own-cards.day");
+}
+
+// Charge accounts, and what the tree says of them.
+fn print_charges() {
     print_day(b"charges.day");
     print_day(b"depot-totals.day");
     print_day(b"sums-at-the-ends.day");
     print_day(b"tree.day");
     print_day(b"given-up-adds.day");
+}
+
+// Actions that wait.
+fn print_queues() {
     print_day(b"queue.day");
     print_day(b"queue-sums.day");
     print_day(b"queue-verdicts.day");
@@ -52,8 +69,21 @@ fn main() {
     print_day(b"two-queues-1.day");
     print_day(b"two-queues-2.day");
     print_day(b"two-queues-edge.day");
+}
+
+// Days with next to nothing in them, and mixed ones.
+fn print_others() {
     print_day(b"no-events.day");
     print_day(b"nothing.day");
     print_day(b"mixed-1.day");
     print_day(b"mixed-2.day");
+}
+
+fn main() {
+    print_cases();
+    print_faults();
+    print_actions();
+    print_charges();
+    print_queues();
+    print_others();
 }
