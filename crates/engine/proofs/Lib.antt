@@ -1,2 +1,2 @@
--- What a look is at, where no early cause applies.
+-- What a look is at, and what it gives then.
 mod Sights

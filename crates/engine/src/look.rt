@@ -1,60 +1,13 @@
 // A look: the card at the nearest version.
 ghost use mathlib.Core.Path.{_≡_};
-ghost use Rattle.rules.specs.Card.{IsBase};
-ghost use Rattle.ancestry.specs.Ancestry.{Readable};
 ghost use Rattle.rules.specs.Look.{look, lookedCard};
-ghost use Rattle.engine.specs.Sight.{sightOf};
 ghost use Rattle.engine.specs.Place.{IsPart};
-use ancestry::charge::seen_by;
-use ancestry::walk::nearest;
-use causes::cause::event_cause;
-use causes::cause::store_cause;
+use crate::sight::sight_of;
 use rules::cause::NONE;
-use rules::cause::SUM;
-use rules::event::READ;
 use rules::store::CARD_LENGTH;
-use rules::store::FIRST_CHARGE;
-use rules::table::NO_MOVES;
 use rules::table::STORE;
 use stores::place::base_place;
 use stores::place::shadow_place;
-
-// What there is to look at.
-struct Sight {
-    // none, or that the sum of a charge account is no amount
-    cause: u64,
-    holder: u64,
-    moves: u64,
-}
-
-// The nearest version; of a charge account that is the base card, whose sum may be no amount.
-fn sight_of(table: &[u64], base: &[u8], n: u64, k: u64) -> Sight
-    requires { ⌜ Readable (now table) n k ⌝ }
-    requires { ⌜ IsBase (now base) ⌝ }
-    ensures { λ r. ⌜ r ≡ sightOf (now (table .entry)) (now (base .entry)) n k ⌝ }
-{
-    if k < FIRST_CHARGE {
-        let found = nearest(table, n, k);
-        return Sight {
-            cause: NONE,
-            holder: found.holder,
-            moves: found.moves,
-        };
-    }
-    let seen = seen_by(table, base, n, k);
-    if !seen.fits {
-        return Sight {
-            cause: SUM,
-            holder: STORE,
-            moves: NO_MOVES,
-        };
-    }
-    Sight {
-        cause: NONE,
-        holder: STORE,
-        moves: seen.moves,
-    }
-}
 
 // Back comes a part of the lent base or shadow slice, in `cause` none, and in `moves` how many moves up the card was found;
 // a refused look gives a part of no bytes where the base slice begins, in `cause` why, and no moves.
@@ -76,24 +29,12 @@ pub fn look<'a>(
     ensures place { λ r. ⌜ IsPart (base .entry) (shadow .entry)
         (look (now (table .entry)) (now (base .entry)) (now (shadow .entry)) n k .part) r ⌝ }
 {
-    let empty = &base[0..0];
-    *moves = NO_MOVES;
-    let outer = store_cause(table, base, shadow);
-    if outer != NONE {
-        *cause = outer;
-        return empty;
-    }
-    let inner = event_cause(table, READ, n, k, empty);
-    if inner != NONE {
-        *cause = inner;
-        return empty;
-    }
-    let found = sight_of(table, base, n, k);
+    let found = sight_of(table, base, shadow, n, k);
     *cause = found.cause;
-    if found.cause != NONE {
-        return empty;
-    }
     *moves = found.moves;
+    if found.cause != NONE {
+        return &base[0..0];
+    }
     let holder = found.holder;
     if holder == STORE {
         let from = base_place(k);

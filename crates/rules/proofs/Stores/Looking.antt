@@ -45,7 +45,7 @@ look-given w base shadow n k h = rw (eq-eqb (lookCause w base shadow n k) 0 h)
 -- ---- a look that isn't refused
 
 -- no cause applies to the read either
-read-allowed : (w base shadow : List ℕ) (n k : ℕ) → lookCause w base shadow n k ≡ 0 → Allowed w base shadow (readBy n k)
+pub read-allowed : (w base shadow : List ℕ) (n k : ℕ) → lookCause w base shadow n k ≡ 0 → Allowed w base shadow (readBy n k)
 read-allowed w base shadow n k h = allowed w base shadow (readBy n k) (sym (look-refused-as-read w base shadow n k []) ∙ h)
 
 -- a part that is a card of 32 bytes inside its store

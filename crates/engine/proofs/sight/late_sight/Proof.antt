@@ -1,4 +1,4 @@
--- `sight_of` finds the nearest version, and of a charge account the base card, by the walk that finds its sum too.
+-- `late_sight` finds the nearest version, and of a charge account the base card, by the walk that finds its sum too.
 -- Assumes nothing.
 use mathlib.Core.Path.{_≡_, sym, ap, ap₂, _∙_}
 use borrow.Author.Needs.{needs}
@@ -9,8 +9,8 @@ use Rattle.rules.specs.Nearest.{readSum}
 use Rattle.rules.specs.Cause.{isReadOutside}
 use Rattle.rules.proofs.Laws.Walking.{sound-climbs}
 use Rattle.rules.proofs.Laws.Charges.{nearest-charge}
-use Rattle.engine.proofs.look.sight_of.Statement.{statement}
-use Rattle.engine.proofs.look.sight_of.Tie as tie
+use Rattle.engine.proofs.sight.late_sight.Statement.{statement}
+use Rattle.engine.proofs.sight.late_sight.Tie as tie
 
 nearest-requires : tie.Need-nearest-requires
 nearest-requires c κs = search needs
@@ -32,12 +32,15 @@ flagged :
     c .seen-by .result .fits ≡ isAmount (readSum (args .table .now) (args .base .now) (args .n) (args .k))
 flagged c = ap (λ s. s .fits) (c .seen-by .ensures)
 
+refused-sight-requires : tie.Need-refused-sight-requires
+refused-sight-requires c κs = search needs
+
 returns-2 : tie.Need-returns-2
 unfolding isReadOutside
 returns-2 c =
-    let seen = c .before .before in
+    let seen = c .before .before .before in
     let charge = le-leb firstCharge _ (seen .before .if1 .left) in
-    rw (charge, sym (flagged seen) ∙ not-true (seen .seen-by .result .fits) (c .if2 .taken))
+    rw (charge, sym (flagged seen) ∙ not-true (seen .seen-by .result .fits) (c .before .if2 .taken)) (c .refused-sight .ensures)
 
 returns-3 : tie.Need-returns-3
 unfolding isReadOutside
@@ -50,5 +53,5 @@ returns-3 c =
     rw (charge, fits, nearest-charge _ _ charge _ up)
     (ap (λ moves. record { cause = 0; holder = 0; moves = moves }) (ap (λ s. s .moves) (seen .seen-by .ensures)))
 
-pub sight-of-spec : {M : Type 1} → statement M
-sight-of-spec = tie.close (tie.spec nearest-requires returns seen-by-requires returns-2 returns-3)
+pub late-sight-spec : {M : Type 1} → statement M
+late-sight-spec = tie.close (tie.spec nearest-requires returns seen-by-requires refused-sight-requires returns-2 returns-3)
