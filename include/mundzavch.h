@@ -14,7 +14,7 @@
  *    1  the base store is not 1,024 bytes, or the shadow store not 65,536
  *    2  the table is not sound, or not MUNDZAVCH_TABLE_WORDS long
  *    3  the event's code is not 1 to 8
- *    4  the number is above the last start, or 0 where the event is no start
+ *    4  the number is above the highest number, or 0 where the event is no start
  *    5  the number names an action that is not live
  *    6  a start when 64 actions have started
  *    7  a read, a write or an add, and the account is above 31
@@ -120,7 +120,7 @@ enum {
 uint64_t mundzavch_open(uint64_t *table, size_t words);
 
 /* The actions started, the topactions' counter and the subactions': 0 where a table is too short to have them. */
-uint64_t mundzavch_started(const uint64_t *table, size_t words);
+uint64_t mundzavch_highest(const uint64_t *table, size_t words);
 uint64_t mundzavch_top_counter(const uint64_t *table, size_t words);
 uint64_t mundzavch_sub_counter(const uint64_t *table, size_t words);
 

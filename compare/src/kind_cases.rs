@@ -260,8 +260,8 @@ const SOUND: &[Case] = &[
     ("the greatest length (7.11)", "sub-length 18446744073709551615; +0 = refused 2"),
     ("an entry of number 0 (7.12)", "+0; +1; e 2; sub-entry 1 0 0 0; j 2 = refused 2; sub-length 0; r 2 0 = read 0 2"),
     ("an entry behind a good one (7.12)", "+0; +1; e 2; sub-length 2; j 2 = refused 2; sub-length 1; j 2 = ready 1"),
-    ("an entry above the last start (7.12)", "+0; +1; e 2; sub-entry 1 3 0 0; +0 = refused 2"),
-    ("an entry far above the last start (7.12)", "+0; +1; e 2; sub-entry 1 18446744073709551615 0 0; +0 = refused 2"),
+    ("an entry above the highest number (7.12)", "+0; +1; e 2; sub-entry 1 3 0 0; +0 = refused 2"),
+    ("an entry far above the highest number (7.12)", "+0; +1; e 2; sub-entry 1 18446744073709551615 0 0; +0 = refused 2"),
     ("an entry of a committed action (7.12)", "+0; +1; +1; c 2 = committed 0; e 3; sub-entry 1 2 0 0; a 3 = refused 2"),
     ("an entry of an aborted action (7.12)", "+0; +1; +1; a 2 = aborted 1 0; e 3; sub-entry 1 2 0 0; a 3 = refused 2"),
     (

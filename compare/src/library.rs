@@ -51,7 +51,7 @@ const NO_NUMBER: u64 = u64::MAX;
 
 extern "C" {
     fn mundzavch_open(table: *mut u64, words: usize) -> u64;
-    fn mundzavch_started(table: *const u64, words: usize) -> u64;
+    fn mundzavch_highest(table: *const u64, words: usize) -> u64;
     fn mundzavch_top_counter(table: *const u64, words: usize) -> u64;
     fn mundzavch_sub_counter(table: *const u64, words: usize) -> u64;
     fn mundzavch_event(
@@ -214,12 +214,12 @@ impl Lent {
         unsafe { mundzavch_open(self.table.as_mut_ptr(), self.table.len()) }
     }
 
-    /// The last start, and the counters.
+    /// The highest number, and the counters.
     pub fn three_numbers(&self) -> (u64, Times) {
         let (table, words) = (self.table.as_ptr(), self.table.len());
         unsafe {
             let counters = Times::new(mundzavch_top_counter(table, words), mundzavch_sub_counter(table, words));
-            (mundzavch_started(table, words), counters)
+            (mundzavch_highest(table, words), counters)
         }
     }
 }

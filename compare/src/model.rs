@@ -126,7 +126,7 @@ pub struct Version {
 pub struct Table {
     pub started: u64,
     pub counters: Times,
-    /// Action n is the entry n - 1; entries above the last start may hold anything.
+    /// Action n is the entry n - 1; entries above the highest number may hold anything.
     pub actions: Vec<Action>,
     /// The queue of each kind, in the order of `KINDS`.
     pub queues: [Queue; KINDS.len()],

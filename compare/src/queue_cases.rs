@@ -327,8 +327,8 @@ const SOUND: &[Case] = &[
     ("the greatest length (7.11)", "length 18446744073709551615; +0 = refused 2"),
     ("an entry of number 0 (7.12)", "+0; e 1; entry 1 0 0 0; j 1 = refused 2; length 0; r 1 0 = read 0 1"),
     ("an entry behind a good one (7.12)", "+0; e 1; length 2; j 1 = refused 2; length 1; j 1 = ready 1"),
-    ("an entry above the last start (7.12)", "+0; e 1; entry 1 2 0 0; +0 = refused 2"),
-    ("an entry far above the last start (7.12)", "+0; e 1; entry 1 18446744073709551615 0 0; +0 = refused 2"),
+    ("an entry above the highest number (7.12)", "+0; e 1; entry 1 2 0 0; +0 = refused 2"),
+    ("an entry far above the highest number (7.12)", "+0; e 1; entry 1 18446744073709551615 0 0; +0 = refused 2"),
     ("an entry of a committed action (7.12)", "+0; +0; c 1 = committed 0; e 2; entry 1 1 0 0; a 2 = refused 2"),
     ("an entry of an aborted action (7.12)", "+0; +0; a 1 = aborted 1 0; e 2; entry 1 1 0 0; a 2 = refused 2"),
     (

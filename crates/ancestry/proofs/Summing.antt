@@ -6,8 +6,8 @@ use mathlib.Core.List.{List}
 use lib.IntN.{_+ℤ_, +ℤ-idl, +ℤ-assoc, +ℤ-comm}
 use Rattle.rules.specs.Card.{IsCharge, basePlace}
 use Rattle.rules.specs.Amount.{amountOf}
-use Rattle.rules.specs.Table.{mostActions, started, parentOf, pendingWord, pendingSum}
-use Rattle.rules.specs.Sound.{IsStarted, Sound}
+use Rattle.rules.specs.Table.{mostActions, highest, parentOf, pendingWord, pendingSum}
+use Rattle.rules.specs.Sound.{IsGiven, Sound}
 use Rattle.rules.specs.Nearest.{movesUp, readSum}
 use Rattle.rules.proofs.Laws.Amounts.{amount-zero}
 use Rattle.rules.proofs.Laws.Walking.{Climbs, sound-climbs, parent-known}
@@ -22,13 +22,13 @@ use Rattle.ancestry.specs.Seen.{seenFrom, seenBy}
 
 -- The walk from n has come to `at` after so many moves, with the pending sums of all before it summed up.
 pub record Summed (w base : List ℕ) (n k at moves : ℕ) (sum : Sum) : Type 0 where
-  pub known : at ≤ started w
+  pub known : at ≤ highest w
   pub counted : Counted (moves + 1) sum
   pub walked : moves + movesUp w at k ≡ movesUp w n k
   pub summed : valueOf sum +ℤ readSum w base at k ≡ readSum w base n k
 
 module _ (w base : List ℕ) (n k : ℕ) where
-  pub summed-first : n ≤ started w → Summed w base n k n 0 (sumOf 0)
+  pub summed-first : n ≤ highest w → Summed w base n k n 0 (sumOf 0)
   summed-first known =
       let none = value-of-word 0 (omega arith) ∙ amount-zero in
       record {
@@ -46,7 +46,7 @@ module _ (w base : List ℕ) (n k : ℕ) where
     room-left = counted-room sum (now .counted) (omega (arith, moves-few))
 
     -- an action's pending sum is added, and the walk goes on at its parent
-    module _ (good : Sound w) (charge : IsCharge k) (here : IsStarted w at) (fits : pendingWord w at k < wordValues) where
+    module _ (good : Sound w) (charge : IsCharge k) (here : IsGiven w at) (fits : pendingWord w at k < wordValues) where
       up : Climbs w at
       up = sound-climbs good at (here .1)
 

@@ -2,8 +2,8 @@
 ghost use mathlib.Core.Path.{_≡_};
 ghost use Rattle.rules.specs.Table.{isLiveChildOf, hasLiveChild};
 ghost use Rattle.rows.specs.Row.{HasRow, Scannable};
+use rows::fields::highest;
 use rows::fields::is_live;
-use rows::fields::last_start;
 use rows::fields::parent;
 
 fn is_live_child(table: &[u64], p: u64, m: u64) -> bool
@@ -20,7 +20,7 @@ pub fn has_live_child(table: &[u64], p: u64) -> bool
     requires { ⌜ Scannable (now table) ⌝ }
     ensures { λ r. ⌜ r ≡ hasLiveChild (now (table .entry)) p ⌝ }
 {
-    let last = last_start(table);
+    let last = highest(table);
     for m in 1..last + 1 {
         if is_live_child(table, p, m) {
             return true;

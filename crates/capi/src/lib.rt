@@ -3,7 +3,7 @@
 ghost use mathlib.Core.Path.{_≡_};
 ghost use mathlib.Core.List.{[], _∷_};
 ghost use Rattle.rules.specs.Kind.{topKind, subKind};
-ghost use Rattle.rules.specs.Table.{started, counter};
+ghost use Rattle.rules.specs.Table.{highest, counter};
 ghost use Rattle.rules.specs.Ledger.{ledgerOf};
 ghost use Rattle.rules.specs.Event.{eventOf};
 ghost use Rattle.rules.specs.Step.{step};
@@ -28,12 +28,12 @@ pub extern "C" fn mundzavch_open(table: &mut [u64]) -> u64
     table::open(table)
 }
 
-// table::started
+// table::highest
 #[no_mangle]
-pub extern "C" fn mundzavch_started(table: &[u64]) -> u64
-    ensures { λ r. ⌜ r ≡ started (now (table .entry)) ⌝ }
+pub extern "C" fn mundzavch_highest(table: &[u64]) -> u64
+    ensures { λ r. ⌜ r ≡ highest (now (table .entry)) ⌝ }
 {
-    table::started(table)
+    table::highest(table)
 }
 
 // table::top_counter

@@ -10,7 +10,7 @@ use Rattle.rules.specs.declared.Answer.the-variants.{Started, Read, ReadSum, Wr
 use Rattle.rules.specs.Card.{cardLength, baseLength, shadowLength, basePlace, cardAt}
 use Rattle.rules.specs.Amount.{withAmount}
 use Rattle.rules.specs.Kind.{topKind, subKind}
-use Rattle.rules.specs.Table.{newTable, started, counter}
+use Rattle.rules.specs.Table.{newTable, highest, counter}
 use Rattle.rules.specs.Event.{Event, eventOf, startUnder, readBy, writeBy, commitOf, abortOf, addBy, enterOf, judgeOf}
 use Rattle.rules.specs.Look.{look, bytesOf}
 use Rattle.rules.specs.Ledger.{Ledger}
@@ -64,7 +64,7 @@ resultOf q =
     let ran = run opening (q .events) in
     record {
       answers = ran .answers;
-      starts = started (ran .after .table);
+      starts = highest (ran .after .table);
       tops = counter (ran .after .table) topKind;
       subs = counter (ran .after .table) subKind;
       baseCards = map (λ k. cardAt (ran .after .base) (basePlace k)) (q .baseAccounts);

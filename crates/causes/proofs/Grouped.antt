@@ -9,7 +9,7 @@ use borrow.Author.Tests.{le-leb, lt-leb, le-ltb, eq-eqb, ne-eqb, not-false, eqb-
 use lib.Dec.{eqb, ltb}
 use lib.ListN.{length, drop}
 use Rattle.rules.specs.Card.{accountCount, baseLength, shadowLength, StoresFit}
-use Rattle.rules.specs.Table.{started, isLive}
+use Rattle.rules.specs.Table.{highest, isLive}
 use Rattle.rules.specs.Sound.{sound, Sound}
 use Rattle.rules.specs.Event.{Event, eventOf, startCode, readCode, writeCode, commitCode, abortCode, addCode, enterCode, judgeCode}
 use Rattle.rules.specs.Cause.{Cause, firstCause, isStoreLengthWrong, queueCause, isOvertaking, sumCause, isSumOutside, storeCauses, earlyCauses, lateCauses, causesOf, causeOf}
@@ -99,10 +99,10 @@ module _ (w base shadow : List ℕ) where
 
 -- ---- the causes of an event, by its kind
 
-module _ (w : List ℕ) (e : Event) (known : e .number ≤ started w) where
+module _ (w : List ℕ) (e : Event) (known : e .number ≤ highest w) where
   pub causes-of-start : e .code ≡ startCode → firstCause (earlyCauses w e) ≡ firstCause (startCauses w (e .number))
   unfolding earlyCauses startCauses
-  causes-of-start is = rw (is, le-ltb (started w) (e .number) known, and-false (eqb (e .number) 0))
+  causes-of-start is = rw (is, le-ltb (highest w) (e .number) known, and-false (eqb (e .number) 0))
 
 -- what holds of the code of each event but a start holds of any of them
 by-code :
@@ -124,7 +124,7 @@ by-code P code (least, most) reads writes commits aborts adds enters judges =
         (λ is-not. above (let ne : code ≢ k = eqb-false code k is-not in omega arith))
         (test (eqb code k))
 
-module _ (w : List ℕ) (e : Event) (known : e .number ≤ started w) where
+module _ (w : List ℕ) (e : Event) (known : e .number ≤ highest w) where
   -- with another code, the causes from 7 on are those of its kind
   abbrev ByKind : ℕ → Type 0
   ByKind code =
@@ -139,7 +139,7 @@ module _ (w : List ℕ) (e : Event) (known : e .number ≤ started w) where
       rw (
         le-leb startCode (e .code) (code .0),
         le-leb (e .code) judgeCode (code .1),
-        le-ltb (started w) (e .number) known,
+        le-ltb (highest w) (e .number) known,
         ne-eqb (e .code) startCode other,
         ne-eqb (e .number) 0 named,
         alive,

@@ -2,7 +2,7 @@
 ghost use mathlib.Core.Path.{_≡_};
 ghost use mathlib.Core.Bool.{cond};
 ghost use Rattle.rules.specs.Queue.{isWaiting};
-ghost use Rattle.rules.specs.Sound.{IsStarted, Sound};
+ghost use Rattle.rules.specs.Sound.{IsGiven, Sound};
 ghost use Rattle.rules.specs.Cause.{firstCause, queuedCause};
 ghost use Rattle.causes.specs.Groups.{busyCauses, commitCauses, judgeCauses};
 use ancestry::children::has_live_child;
@@ -39,7 +39,7 @@ pub(crate) fn busy_cause(table: &[u64], number: u64) -> u64
 // Causes 9, 16 and 18, which asks of the queue of the action's kind.
 pub(crate) fn commit_cause(table: &[u64], number: u64) -> u64
     requires { ⌜ Sound (now table) ⌝ }
-    requires { ⌜ IsStarted (now table) number ⌝ }
+    requires { ⌜ IsGiven (now table) number ⌝ }
     ensures { λ r. ⌜ r ≡ firstCause (commitCauses (now (table .entry)) number) ⌝ }
 {
     let busy = busy_cause(table, number);
@@ -55,7 +55,7 @@ pub(crate) fn commit_cause(table: &[u64], number: u64) -> u64
 // Cause 17, which asks of the same queue.
 pub(crate) fn judge_cause(table: &[u64], number: u64) -> u64
     requires { ⌜ Sound (now table) ⌝ }
-    requires { ⌜ IsStarted (now table) number ⌝ }
+    requires { ⌜ IsGiven (now table) number ⌝ }
     ensures { λ r. ⌜ r ≡ firstCause (judgeCauses (now (table .entry)) number) ⌝ }
 {
     let h = kind_of(table, number);

@@ -1,8 +1,8 @@
 // Why a call is refused: the number of the first cause that applies.
 ghost use mathlib.Core.Path.{_≡_};
 ghost use Prim.Native.Nat.{_≤_};
-ghost use Rattle.rules.specs.Table.{started};
-ghost use Rattle.rules.specs.Sound.{IsStarted, Sound};
+ghost use Rattle.rules.specs.Table.{highest};
+ghost use Rattle.rules.specs.Sound.{IsGiven, Sound};
 ghost use Rattle.rules.specs.Event.{eventOf};
 ghost use Rattle.rules.specs.Cause.{firstCause, storeCauses, earlyCauses};
 ghost use Rattle.causes.specs.Groups.{startCauses, kindCauses, accountCauses, cardCauses, writeCauses, addCauses};
@@ -12,8 +12,8 @@ use crate::busy::judge_cause;
 use crate::busy::queued_cause;
 use amounts::bytes::word_at;
 use amounts::limit::is_addable;
+use rows::fields::highest;
 use rows::fields::is_live;
-use rows::fields::last_start;
 use rules::amount::AMOUNT_AT;
 use rules::cause;
 use rules::event;
@@ -53,7 +53,7 @@ pub fn event_cause(table: &[u64], code: u64, number: u64, account: u64, card: &[
     if event::JUDGE < code {
         return cause::CODE;
     }
-    if last_start(table) < number {
+    if highest(table) < number {
         return cause::NUMBER;
     }
     if code == event::START {
@@ -71,7 +71,7 @@ pub fn event_cause(table: &[u64], code: u64, number: u64, account: u64, card: &[
 // Causes 5, 6 and 16, of a start under a number that is known.
 fn start_cause(table: &[u64], number: u64) -> u64
     requires { ⌜ Sound (now table) ⌝ }
-    requires { ⌜ number ≤ started (now table) ⌝ }
+    requires { ⌜ number ≤ highest (now table) ⌝ }
     ensures { λ r. ⌜ r ≡ firstCause (startCauses (now (table .entry)) number) ⌝ }
 {
     if number != STORE {
@@ -79,7 +79,7 @@ fn start_cause(table: &[u64], number: u64) -> u64
             return cause::NOT_LIVE;
         }
     }
-    if MOST_ACTIONS <= last_start(table) {
+    if MOST_ACTIONS <= highest(table) {
         return cause::TABLE_FULL;
     }
     queued_cause(table, number)
@@ -88,7 +88,7 @@ fn start_cause(table: &[u64], number: u64) -> u64
 // The causes from 7 on, of an event that is no start, by an action that is live.
 fn kind_cause(table: &[u64], code: u64, number: u64, account: u64, card: &[u8]) -> u64
     requires { ⌜ Sound (now table) ⌝ }
-    requires { ⌜ IsStarted (now table) number ⌝ }
+    requires { ⌜ IsGiven (now table) number ⌝ }
     ensures { λ r. ⌜ r ≡ firstCause (kindCauses (now (table .entry)) (eventOf code number account (now (card .entry)))) ⌝ }
 {
     if code == event::ABORT {

@@ -3,7 +3,7 @@ ghost use mathlib.Core.Path.{_≡_};
 ghost use Rattle.rules.specs.Card.{StoresFit};
 ghost use Rattle.rules.specs.Table.{parentOf};
 ghost use Rattle.rules.specs.Ledger.{ledgerOf};
-ghost use Rattle.rules.specs.Sound.{IsStarted, Sound};
+ghost use Rattle.rules.specs.Sound.{IsGiven, Sound};
 ghost use mathlib.Core.Bool.{false};
 ghost use Rattle.rules.specs.Cause.{isCommitOutside};
 ghost use Rattle.rules.specs.Clash.{firstClash};
@@ -27,7 +27,7 @@ use validation::search::first_clash;
 // A commit that passes: the copies, the end, and the sets for a parent that is an action. Back comes the end time.
 pub(crate) fn pass(table: &mut [u64], base: &mut [u8], shadow: &mut [u8], n: u64) -> u64
     requires { ⌜ Sound (now table) ⌝ }
-    requires { ⌜ IsStarted (now table) n ⌝ }
+    requires { ⌜ IsGiven (now table) n ⌝ }
     requires { ⌜ StoresFit (now base) (now shadow) ⌝ }
     requires { ⌜ isCommitOutside (now table) (now base) n Nothing ≡ false ⌝ }
     ensures time { λ r. ⌜ r ≡ commitTime (now (table .entry)) n ⌝ }
@@ -47,7 +47,7 @@ pub(crate) fn pass(table: &mut [u64], base: &mut [u8], shadow: &mut [u8], n: u64
 // Failed, refused where a sum is no amount, or passed.
 pub fn commit(table: &mut [u64], base: &mut [u8], shadow: &mut [u8], n: u64) -> Answer
     requires { ⌜ Sound (now table) ⌝ }
-    requires { ⌜ IsStarted (now table) n ⌝ }
+    requires { ⌜ IsGiven (now table) n ⌝ }
     requires { ⌜ StoresFit (now base) (now shadow) ⌝ }
     ensures { λ r. ⌜ outcomeOf r (now (table .exit)) (now (base .exit)) (now (shadow .exit))
         ≡ unlessOutside (isCommitOutside (now (table .entry)) (now (base .entry)) n (firstClash (now (table .entry)) n))

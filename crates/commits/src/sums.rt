@@ -2,7 +2,7 @@
 ghost use mathlib.Core.Path.{_≡_};
 ghost use Rattle.rules.specs.Card.{IsBase, IsCharge};
 ghost use Rattle.rules.specs.Cause.{commitSum, isCommitOutside};
-ghost use Rattle.rules.specs.Sound.{IsStarted, Sound};
+ghost use Rattle.rules.specs.Sound.{IsGiven, Sound};
 ghost use Rattle.rules.specs.declared.Found.the-variants.{Nothing};
 ghost use Rattle.amounts.specs.Sum.{valueOf};
 ghost use Rattle.commits.specs.Outside.{isSumWrong};
@@ -19,7 +19,7 @@ use rules::store::FIRST_CHARGE;
 
 // What n's pending sum for the account makes with its parent's, or with the base amount.
 fn commit_sum(table: &[u64], base: &[u8], n: u64, k: u64) -> Sum
-    requires { ⌜ Sound (now table) × IsStarted (now table) n ⌝ }
+    requires { ⌜ Sound (now table) × IsGiven (now table) n ⌝ }
     requires { ⌜ IsBase (now base) ⌝ }
     requires { ⌜ IsCharge k ⌝ }
     ensures { λ r. ⌜ valueOf r ≡ commitSum (now (table .entry)) (now (base .entry)) n k ⌝ }
@@ -29,7 +29,7 @@ fn commit_sum(table: &[u64], base: &[u8], n: u64, k: u64) -> Sum
 }
 
 fn is_sum_wrong(table: &[u64], base: &[u8], n: u64, k: u64) -> bool
-    requires { ⌜ Sound (now table) × IsStarted (now table) n ⌝ }
+    requires { ⌜ Sound (now table) × IsGiven (now table) n ⌝ }
     requires { ⌜ IsBase (now base) ⌝ }
     requires { ⌜ IsCharge k ⌝ }
     ensures { λ r. ⌜ r ≡ isSumWrong (now (table .entry)) (now (base .entry)) n k ⌝ }
@@ -42,7 +42,7 @@ fn is_sum_wrong(table: &[u64], base: &[u8], n: u64, k: u64) -> bool
 
 // One of the sums of n's commit is no amount.
 pub(crate) fn is_outside(table: &[u64], base: &[u8], n: u64) -> bool
-    requires { ⌜ Sound (now table) × IsStarted (now table) n ⌝ }
+    requires { ⌜ Sound (now table) × IsGiven (now table) n ⌝ }
     requires { ⌜ IsBase (now base) ⌝ }
     ensures { λ r. ⌜ r ≡ isCommitOutside (now (table .entry)) (now (base .entry)) n Nothing ⌝ }
 {

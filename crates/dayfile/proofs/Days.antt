@@ -14,7 +14,7 @@ use lib.ListN.{length, take, drop, replicate, length-append, length-drop, length
 use lib.Seq.{take-all}
 use Rattle.rules.specs.Card.{baseLength}
 use Rattle.rules.specs.Kind.{topKind, subKind}
-use Rattle.rules.specs.Table.{tableLength, newTable, started, counter}
+use Rattle.rules.specs.Table.{tableLength, newTable, highest, counter}
 use Rattle.rules.specs.Cause.{isStoreLengthWrong}
 use Rattle.rules.specs.Event.{Event}
 use Rattle.rules.specs.Ledger.{Ledger, ledgerOf}
@@ -144,7 +144,7 @@ day-lines s file buffer a isWords isCount isTable =
 lines-bound : (words table : List ℕ) (count : ℕ) → count ≤ mostEvents → length (listingOf words count table) ≤ listingLength
 unfolding listingOf
 lines-bound words table count few =
-    rw length-append (listing-fits words count (started table) (counter table topKind) (counter table subKind) few)
+    rw length-append (listing-fits words count (highest table) (counter table topKind) (counter table subKind) few)
 
 listing-bound : (s : Ledger) (file : List ℕ) → length (listing s file) ≤ listingLength
 listing-bound s file = go (ℕ-discrete (dayCause s file) 0)

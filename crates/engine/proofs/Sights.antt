@@ -11,7 +11,7 @@ use Rattle.rules.specs.Table.{mostActions}
 use Rattle.rules.specs.Event.{readBy}
 use Rattle.rules.specs.Cause.{firstCause, earlyCauses, sumCause, isReadOutside, areOutside}
 use Rattle.rules.specs.Look.{lookCause, look, lookAt, lookRefused}
-use Rattle.rules.proofs.Laws.Walking.{nearest-started}
+use Rattle.rules.proofs.Laws.Walking.{nearest-given}
 use Rattle.rules.proofs.Laws.Allowed.{Allowed}
 use Rattle.rules.proofs.Sound.Soundness.{facts}
 use Rattle.rules.proofs.Stores.Looking.{look-refused-as-read, look-refused, look-given, read-allowed}
@@ -84,6 +84,6 @@ module _ (w base shadow : List ℕ) (n k : ℕ) where
           omega (
             arith,
             ap (λ (s : Sight). s .holder) at-nearest,
-            nearest-started w sound n k (given-allowed .early .numberKnown),
+            nearest-given w sound n k (given-allowed .early .numberKnown),
             sound .few,
           )

@@ -10,11 +10,11 @@ use mathlib.Core.List.{List}
 use lib.Dec.{eqb}
 use lib.ListN.{length}
 use Rattle.rules.specs.Range.{upFrom, count, fold}
-use Rattle.rules.specs.Table.{width, live, aborted, startedField, parentField, stateField, word, started, parentOf, stateOf, withState, actions}
+use Rattle.rules.specs.Table.{width, live, aborted, highestField, parentField, stateField, word, highest, parentOf, stateOf, withState, actions}
 use Rattle.rules.specs.Walk.{isAbortedBy}
 use Rattle.rules.specs.Step.{abortTable}
 use Rattle.rules.proofs.Laws.Ranges.{count-at-most, count-left-here, count-left-next, count-left-done, fold-left-next, fold-left-done}
-use Rattle.rules.proofs.Laws.Walking.{started-climbs, atOrBelow-agree}
+use Rattle.rules.proofs.Laws.Walking.{given-climbs, atOrBelow-agree}
 use Rattle.rules.proofs.Laws.Words.{withWord-length, word-other-row, word-off-field}
 use Rattle.ancestry.specs.Ancestry.{ParentsBelow}
 
@@ -24,7 +24,7 @@ mark w n m now = cond (isAbortedBy w n m) (withState now m aborted) now
 
 -- the started actions from m on
 abbrev pub ahead : List ℕ → ℕ → List ℕ
-ahead w m = upFrom m (started w + 1 - m)
+ahead w m = upFrom m (highest w + 1 - m)
 
 -- The abort of n in the table w has come to action m, with `found` aborted and v the table by now.
 pub record Reached (w : List ℕ) (n : ℕ) (v : List ℕ) (found m : ℕ) : Type 0 where
@@ -39,7 +39,7 @@ module _ (w : List ℕ) (n : ℕ) where
   pub reached-first : Reached w n w 0 1
   unfolding abortTable actions
   reached-first =
-      let all : started w + 1 - 1 ≡ started w = omega arith in
+      let all : highest w + 1 - 1 ≡ highest w = omega arith in
       record {
         first = le-refl 1;
         long = refl;
@@ -50,20 +50,20 @@ module _ (w : List ℕ) (n : ℕ) where
       }
 
   module _ {v : List ℕ} {found m : ℕ} (r : Reached w n v found m) where
-    same-started : started v ≡ started w
-    same-started = r .fields 0 startedField (omega arith) (λ z. omega arith)
+    same-highest : highest v ≡ highest w
+    same-highest = r .fields 0 highestField (omega arith) (λ z. omega arith)
 
-    pub known-kept : m ≤ started w → m ≤ started v
-    known-kept h = omega (arith, same-started)
+    pub known-kept : m ≤ highest w → m ≤ highest v
+    known-kept h = omega (arith, same-highest)
 
-    pub found-few : found ≤ started w
+    pub found-few : found ≤ highest w
     unfolding actions
-    found-few = omega (arith, r .counted, count-at-most (isAbortedBy w n) 1 (started w))
+    found-few = omega (arith, r .counted, count-at-most (isAbortedBy w n) 1 (highest w))
 
-    pub reached-last : started w + 1 ≤ m → (found ≡ count (isAbortedBy w n) (actions w)) × (v ≡ abortTable w n)
+    pub reached-last : highest w + 1 ≤ m → (found ≡ count (isAbortedBy w n) (actions w)) × (v ≡ abortTable w n)
     reached-last h = (
-      omega (arith, r .counted, count-left-done (isAbortedBy w n) m (started w + 1) h),
-      sym (r .leaves ∙ fold-left-done (mark w n) m (started w + 1) v h),
+      omega (arith, r .counted, count-left-done (isAbortedBy w n) m (highest w + 1) h),
+      sym (r .leaves ∙ fold-left-done (mark w n) m (highest w + 1) v h),
     )
 
     module _ (s : ParentsBelow w) where
@@ -74,17 +74,17 @@ module _ (w : List ℕ) (n : ℕ) where
       parents-below-kept =
           record {
             long = r .long ∙ s .long;
-            few = omega (arith, same-started, s .few);
-            below = λ x h. rw (same-parent x) (s .below x (omega (arith, same-started)));
+            few = omega (arith, same-highest, s .few);
+            below = λ x h. rw (same-parent x) (s .below x (omega (arith, same-highest)));
           }
 
-      test-kept : m ≤ started w → isAbortedBy v n m ≡ isAbortedBy w n m
+      test-kept : m ≤ highest w → isAbortedBy v n m ≡ isAbortedBy w n m
       test-kept h =
           ap₂ _&&_ (ap (λ x. eqb x live) (r .states m (le-refl m)))
-          (atOrBelow-agree w v same-parent n m (started-climbs w (s .few) (s .below) m h))
+          (atOrBelow-agree w v same-parent n m (given-climbs w (s .few) (s .below) m h))
 
       -- action m is passed over, or it is marked
-      pub reached-over : m ≤ started w → isAbortedBy v n m ≡ false → Reached w n v found (m + 1)
+      pub reached-over : m ≤ highest w → isAbortedBy v n m ≡ false → Reached w n v found (m + 1)
       reached-over h e =
           let out = sym (test-kept h) ∙ e in
           record {
@@ -92,11 +92,11 @@ module _ (w : List ℕ) (n : ℕ) where
             long = r .long;
             fields = r .fields;
             states = λ x later. r .states x (omega arith);
-            counted = omega (arith, r .counted, count-left-next (isAbortedBy w n) m (started w + 1) (omega arith) out);
-            leaves = r .leaves ∙ fold-left-next (mark w n) m (started w + 1) v (omega arith) ∙ rw out;
+            counted = omega (arith, r .counted, count-left-next (isAbortedBy w n) m (highest w + 1) (omega arith) out);
+            leaves = r .leaves ∙ fold-left-next (mark w n) m (highest w + 1) v (omega arith) ∙ rw out;
           }
 
-      pub reached-here : m ≤ started w → isAbortedBy v n m ≡ true → Reached w n (withState v m aborted) (found + 1) (m + 1)
+      pub reached-here : m ≤ highest w → isAbortedBy v n m ≡ true → Reached w n (withState v m aborted) (found + 1) (m + 1)
       reached-here h e =
           let into = sym (test-kept h) ∙ e in
           record {
@@ -106,6 +106,6 @@ module _ (w : List ℕ) (n : ℕ) where
             states = λ x later.
                 word-other-row v m x stateField stateField _ (omega arith) (omega arith) (λ z. omega arith)
                 ∙ r .states x (omega arith);
-            counted = omega (arith, r .counted, count-left-here (isAbortedBy w n) m (started w + 1) (omega arith) into);
-            leaves = r .leaves ∙ fold-left-next (mark w n) m (started w + 1) v (omega arith) ∙ rw into;
+            counted = omega (arith, r .counted, count-left-here (isAbortedBy w n) m (highest w + 1) (omega arith) into);
+            leaves = r .leaves ∙ fold-left-next (mark w n) m (highest w + 1) v (omega arith) ∙ rw into;
           }

@@ -6,7 +6,7 @@ ghost use Rattle.rules.specs.Walk.{isAbortedBy};
 ghost use Rattle.rules.specs.Step.{abortTable};
 ghost use Rattle.ancestry.specs.Ancestry.{ParentsBelow};
 use ancestry::walk::is_aborted_by;
-use rows::fields::last_start;
+use rows::fields::highest;
 use rows::fields::set_state;
 use rules::table::ABORTED;
 
@@ -16,7 +16,7 @@ pub fn abort_live(table: &mut [u64], n: u64) -> u64
     ensures count { λ r. ⌜ r ≡ count (isAbortedBy (now (table .entry)) n) (actions (now (table .entry))) ⌝ }
     ensures leaves { λ r. ⌜ now (table .exit) ≡ abortTable (now (table .entry)) n ⌝ }
 {
-    let last = last_start(table);
+    let last = highest(table);
     let mut found = 0;
     for m in 1..last + 1 {
         if is_aborted_by(table, n, m) {

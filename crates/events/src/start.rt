@@ -1,12 +1,12 @@
 // The start of an action.
 ghost use mathlib.Core.Path.{_≡_};
 ghost use Prim.Native.Nat.{_+_};
-ghost use Rattle.rules.specs.Table.{started};
+ghost use Rattle.rules.specs.Table.{highest};
 ghost use Rattle.rules.specs.Step.{startTable};
 ghost use Rattle.rows.specs.Row.{Scannable};
 ghost use Rattle.events.specs.Asked.{HasFreeNumber};
-use rows::fields::last_start;
-use rows::fields::set_last_start;
+use rows::fields::highest;
+use rows::fields::set_highest;
 use rows::fields::set_parent;
 use rows::fields::set_state;
 use rows::sets::clear_own_adds;
@@ -18,11 +18,11 @@ use rules::table::LIVE;
 pub fn start(table: &mut [u64], p: u64) -> u64
     requires { ⌜ Scannable (now table) ⌝ }
     requires { ⌜ HasFreeNumber (now table) ⌝ }
-    ensures number { λ r. ⌜ r ≡ started (now (table .entry)) + 1 ⌝ }
+    ensures number { λ r. ⌜ r ≡ highest (now (table .entry)) + 1 ⌝ }
     ensures leaves { λ r. ⌜ now (table .exit) ≡ startTable (now (table .entry)) p ⌝ }
 {
-    let n = last_start(table) + 1;
-    set_last_start(table, n);
+    let n = highest(table) + 1;
+    set_highest(table, n);
     set_parent(table, n, p);
     set_state(table, n, LIVE);
     clear_end(table, n);

@@ -9,7 +9,7 @@ use mathlib.Core.Bool.{Bool, true, false}
 use mathlib.Core.List.{List}
 use Rattle.rules.specs.Card.{StoresFit}
 use Rattle.rules.specs.Range.{count}
-use Rattle.rules.specs.Table.{mostActions, startedField, started, actions}
+use Rattle.rules.specs.Table.{mostActions, highestField, highest, actions}
 use Rattle.rules.specs.Walk.{isAbortedBy}
 use Rattle.rules.specs.Kind.{IsKind}
 use Rattle.rules.specs.Queue.{queueLength, isHeadReady}
@@ -76,9 +76,9 @@ pub out-count :
     count (isAbortedBy (outOfBoth w n) n) (actions (outOfBoth w n)) ≡ count (isAbortedBy w n) (actions w)
 unfolding actions
 out-count {w} sound n =
-    let same : started (outOfBoth w n) ≡ started w =
-    out-keeps sound n 0 startedField (inl (omega arith)) (inr (inl (omega arith))) in
-    rw same (count-agree _ _ 1 (started w) (λ m _. out-reach sound n m))
+    let same : highest (outOfBoth w n) ≡ highest w =
+    out-keeps sound n 0 highestField (inl (omega arith)) (inr (inl (omega arith))) in
+    rw same (count-agree _ _ 1 (highest w) (λ m _. out-reach sound n m))
 
 -- ---- how many leave
 

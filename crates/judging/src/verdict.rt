@@ -1,6 +1,6 @@
 // The verdict of an action that enters its queue.
 ghost use mathlib.Core.Path.{_≡_};
-ghost use Rattle.rules.specs.Sound.{IsStarted, Sound};
+ghost use Rattle.rules.specs.Sound.{IsGiven, Sound};
 ghost use Rattle.rules.specs.Kind.{IsKind};
 ghost use Rattle.rules.specs.Verdict.{meets, isMetBy, isMetInQueue, verdictOf};
 ghost use Rattle.rules.specs.Card.{IsAccount};
@@ -59,7 +59,7 @@ fn is_met_by(table: &[u64], n: u64, m: u64) -> bool
 fn is_met_in_queue(table: &[u64], h: u64, n: u64) -> bool
     requires { ⌜ Sound (now table) ⌝ }
     requires { ⌜ IsKind h ⌝ }
-    requires { ⌜ IsStarted (now table) n ⌝ }
+    requires { ⌜ IsGiven (now table) n ⌝ }
     ensures { λ r. ⌜ r ≡ isMetInQueue (now (table .entry)) h n ⌝ }
 {
     let tail = queue_length(table, h);
@@ -75,7 +75,7 @@ fn is_met_in_queue(table: &[u64], h: u64, n: u64) -> bool
 pub(crate) fn verdict(table: &[u64], h: u64, n: u64) -> u64
     requires { ⌜ Sound (now table) ⌝ }
     requires { ⌜ IsKind h ⌝ }
-    requires { ⌜ IsStarted (now table) n ⌝ }
+    requires { ⌜ IsGiven (now table) n ⌝ }
     ensures { λ r. ⌜ r ≡ verdictOf (now (table .entry)) h n ⌝ }
 {
     match first_clash(table, n) {

@@ -113,16 +113,16 @@ line-fits words i place kind first second third is more digits room =
 abbrev pub endLength : ℕ
 endLength = 67
 
-pub end-bound : (started top sub : ℕ) → length (endLine started top sub) ≤ endLength
-end-bound started top sub =
-    omega (arith, end-length started top sub, decimal-bound started, decimal-bound top, decimal-bound sub)
+pub end-bound : (starts top sub : ℕ) → length (endLine starts top sub) ≤ endLength
+end-bound starts top sub =
+    omega (arith, end-length starts top sub, decimal-bound starts, decimal-bound top, decimal-bound sub)
 
 -- the lines of a day and the last line fit the buffer
 pub listing-fits :
-    (words : List ℕ) (n started top sub : ℕ) → n ≤ mostEvents
-    → length (linesOf words 1 0 n) + length (endLine started top sub) ≤ listingLength
-listing-fits words n started top sub h =
-    omega (arith, lines-bound words 1 0 n (omega arith), end-bound started top sub)
+    (words : List ℕ) (n starts top sub : ℕ) → n ≤ mostEvents
+    → length (linesOf words 1 0 n) + length (endLine starts top sub) ≤ listingLength
+listing-fits words n starts top sub h =
+    omega (arith, lines-bound words 1 0 n (omega arith), end-bound starts top sub)
 
 pub refused-fits : (fault : ℕ) → length (refusedLine fault) ≤ listingLength
 unfolding spaced spacedSum

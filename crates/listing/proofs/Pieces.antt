@@ -78,15 +78,15 @@ module _ (kind first second : ℕ) where
     line-length place = simp length-append (omega arith)
 
 pub end-length :
-    (started top sub : ℕ)
-    → length (endLine started top sub)
-    ≡ length endWord + length (space ∷ decimal started) + length (space ∷ decimal top) + length (space ∷ decimal sub) + 1
-end-length started top sub =
+    (starts top sub : ℕ)
+    → length (endLine starts top sub)
+    ≡ length endWord + length (space ∷ decimal starts) + length (space ∷ decimal top) + length (space ∷ decimal sub) + 1
+end-length starts top sub =
     omega (
       arith,
-      length-append (endWord ++ spaced (started ∷ top ∷ sub ∷ [])) (lineFeed ∷ []),
-      ap length (spaced-three started top sub),
-      length-append (space ∷ decimal started) ((space ∷ decimal top) ++ (space ∷ decimal sub)),
+      length-append (endWord ++ spaced (starts ∷ top ∷ sub ∷ [])) (lineFeed ∷ []),
+      ap length (spaced-three starts top sub),
+      length-append (space ∷ decimal starts) ((space ∷ decimal top) ++ (space ∷ decimal sub)),
       length-append (space ∷ decimal top) (space ∷ decimal sub),
     )
 

@@ -8,7 +8,7 @@ use lib.IntN.{ℤ, pos, negsuc}
 use Rattle.rules.specs.declared.Answer.{Answer}
 use Rattle.rules.specs.declared.Answer.the-variants.{Refused}
 use Rattle.rules.specs.Kind.{topKind, subKind}
-use Rattle.rules.specs.Table.{started, counter}
+use Rattle.rules.specs.Table.{highest, counter}
 use Rattle.rules.specs.Answer.{Said, said}
 
 abbrev pub space : ℕ
@@ -72,10 +72,10 @@ answerLines place (a ∷ answers) = answerLine place a ++ answerLines (suc place
 
 -- RULES 10.3: the last line, and that of a table
 abbrev pub endLine : ℕ → ℕ → ℕ → List ℕ
-endLine started top sub = endWord ++ spaced (started ∷ top ∷ sub ∷ []) ++ (lineFeed ∷ [])
+endLine starts top sub = endWord ++ spaced (starts ∷ top ∷ sub ∷ []) ++ (lineFeed ∷ [])
 
 abbrev pub lastLine : List ℕ → List ℕ
-lastLine w = endLine (started w) (counter w topKind) (counter w subKind)
+lastLine w = endLine (highest w) (counter w topKind) (counter w subKind)
 
 -- RULES 10.4: the line of a refused day
 abbrev pub refusedLine : ℕ → List ℕ

@@ -130,13 +130,13 @@ fn put_lines(out: &mut [u8], answers: &[u64], count: usize) -> usize
     at
 }
 
-fn put_end(out: &mut [u8], at: usize, started: u64, top: u64, sub: u64) -> usize
-    requires { ⌜ at + length (endLine started top sub) ≤ length (now out) ⌝ }
-    ensures next { λ r. ⌜ r ≡ at + length (endLine started top sub) ⌝ }
-    ensures leaves { λ r. ⌜ now (out .exit) ≡ putAt (now (out .entry)) at (endLine started top sub) ⌝ }
+fn put_end(out: &mut [u8], at: usize, starts: u64, top: u64, sub: u64) -> usize
+    requires { ⌜ at + length (endLine starts top sub) ≤ length (now out) ⌝ }
+    ensures next { λ r. ⌜ r ≡ at + length (endLine starts top sub) ⌝ }
+    ensures leaves { λ r. ⌜ now (out .exit) ≡ putAt (now (out .entry)) at (endLine starts top sub) ⌝ }
 {
     let word = put_text(out, at, b"end");
-    let one = put_spaced(out, word, started);
+    let one = put_spaced(out, word, starts);
     let two = put_spaced(out, one, top);
     let three = put_spaced(out, two, sub);
     put_byte(out, three, b'\n')
@@ -151,10 +151,10 @@ pub fn put_listing(out: &mut [u8], answers: &[u64], count: usize, table: &[u64])
         ≡ putAt (now (out .entry)) 0 (listingOf (now (answers .entry)) count (now (table .entry))) ⌝ }
 {
     let next = put_lines(out, answers, count);
-    let started = table::started(table);
+    let starts = table::highest(table);
     let top = table::top_counter(table);
     let sub = table::sub_counter(table);
-    put_end(out, next, started, top, sub)
+    put_end(out, next, starts, top, sub)
 }
 
 pub fn put_refused(out: &mut [u8], fault: u64) -> usize

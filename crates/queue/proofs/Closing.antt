@@ -11,12 +11,12 @@ use mathlib.Core.Bool.{true, false}
 use mathlib.Core.List.{List, _∷_, map}
 use lib.ListN.{length}
 use Rattle.rules.specs.Range.{upFrom, filter}
-use Rattle.rules.specs.Table.{width, startedField, parentField, word, started, parentOf}
+use Rattle.rules.specs.Table.{width, highestField, parentField, word, highest, parentOf}
 use Rattle.rules.specs.Walk.{isAbortedBy}
 use Rattle.rules.specs.Kind.{IsKind}
 use Rattle.rules.specs.Queue.{numberField, queueLength, withQueueLength, Entry, entryAt, withEntry, queue, withEntries, withQueue, keepsPlace, withoutBelow}
 use Rattle.rules.proofs.Laws.Ranges.{left-next, left-done}
-use Rattle.rules.proofs.Laws.Walking.{started-climbs}
+use Rattle.rules.proofs.Laws.Walking.{given-climbs}
 use Rattle.rules.proofs.Laws.Queue.{OffEntry, withEntry-length, withEntry-off, entryAt-other}
 use Rattle.rules.proofs.Laws.QueueLoops.{queued-at, abortedBy-kept}
 use Rattle.ancestry.specs.Ancestry.{ParentsBelow, IsKnown}
@@ -67,8 +67,8 @@ module _ (w : List ℕ) (h n : ℕ) where
     closed-last done = sym (r .leaves ∙ rw (left-done i (queueLength w h + 1) done, add-zero))
 
     module _ (known : IsKind h) (s : ParentsBelow w) where
-      same-started : started v ≡ started w
-      same-started = r .fields 0 startedField (omega arith) (inl (omega arith))
+      same-highest : highest v ≡ highest w
+      same-highest = r .fields 0 highestField (omega arith) (inl (omega arith))
 
       same-parent : (m : ℕ) → parentOf v m ≡ parentOf w m
       same-parent m = r .fields m parentField (omega arith) (inl (omega arith))
@@ -77,8 +77,8 @@ module _ (w : List ℕ) (h n : ℕ) where
       parents-below-kept =
           record {
             long = r .long ∙ s .long;
-            few = omega (arith, same-started, s .few);
-            below = λ m begun. rw (same-parent m) (s .below m (omega (arith, same-started)));
+            few = omega (arith, same-highest, s .few);
+            below = λ m begun. rw (same-parent m) (s .below m (omega (arith, same-highest)));
           }
 
       -- m stands at i
@@ -87,16 +87,16 @@ module _ (w : List ℕ) (h n : ℕ) where
         unfolding entryAt
         same-number = number ∙ ap (λ e. e .number) (r .entries i (omega arith))
 
-        known-there : m ≤ started w
+        known-there : m ≤ highest w
         known-there = rw same-number (waits _ (queued-at w h i (omega (arith, r .behind)) inside))
 
         pub known-kept : IsKnown v m
-        known-kept = omega (arith, same-started, known-there)
+        known-kept = omega (arith, same-highest, known-there)
 
         test-kept : isAbortedBy v n m ≡ isAbortedBy w n (entryAt w h i .number)
         unfolding entryAt
         test-kept =
-            abortedBy-kept w v h known (r .fields) n m (started-climbs w (s .few) (s .below) m known-there)
+            abortedBy-kept w v h known (r .fields) n m (given-climbs w (s .few) (s .below) m known-there)
             ∙ ap (isAbortedBy w n) same-number
 
         -- its entry goes, or it stays

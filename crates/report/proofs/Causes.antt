@@ -13,7 +13,7 @@ use Rattle.rules.specs.Range.{any}
 use Rattle.rules.specs.Card.{baseLength, chargeAccounts, IsCharge}
 use Rattle.rules.specs.Amount.{isAmount}
 use Rattle.rules.specs.Table.{mostActions}
-use Rattle.rules.specs.Sound.{IsStarted}
+use Rattle.rules.specs.Sound.{IsGiven}
 use Rattle.rules.specs.Cause.{Cause, firstCause, storeLengthCause, isStoreLengthWrong, sumCause, storeCauses}
 use Rattle.rules.specs.Tree.{totalOf, isFigureOutside, treeCauses, treeCause}
 use Rattle.rules.proofs.Laws.Tests.{or-inr}
@@ -70,6 +70,6 @@ module _ (w base shadow opening : List ℕ) where
           by-stores opens (sym (opening-right opens) ∙ none) (ℕ-discrete (firstCause (storeCauses w base shadow)) 0)
 
   -- its figures are amounts
-  pub totals-are : Reportable → (n k : ℕ) → IsStarted w n → IsCharge k → isAmount (totalOf w k n) ≡ true
+  pub totals-are : Reportable → (n k : ℕ) → IsGiven w n → IsCharge k → isAmount (totalOf w k n) ≡ true
   unfolding totalOf
   totals-are may n k known charge = fitting-is-amount mostActions w k n (may .fit .totals n k known charge)

@@ -8,8 +8,8 @@ use mathlib.Core.List.{List}
 use Rattle.rules.specs.Range.{upFrom, any, all}
 use Rattle.rules.specs.Card.{firstCharge, chargeCount, chargeAccounts, IsCharge, basePlace}
 use Rattle.rules.specs.Amount.{amountOf, amountWord, isAmount, baseAmount}
-use Rattle.rules.specs.Table.{mostActions, started, ownAddsWord, ownAdds, actions}
-use Rattle.rules.specs.Sound.{IsStarted, Sound}
+use Rattle.rules.specs.Table.{mostActions, highest, ownAddsWord, ownAdds, actions}
+use Rattle.rules.specs.Sound.{IsGiven, Sound}
 use Rattle.rules.specs.Tree.{totalOf, topSum, isFigureOutside}
 use Rattle.rules.proofs.Laws.Tests.{and-both, not-both, not-fails, or-fails}
 use Rattle.rules.proofs.Laws.Amounts.{word-read-back}
@@ -27,10 +27,10 @@ use Rattle.report.specs.Asked.{FiguresFit}
 module _ {w : List ℕ} (s : Sound w) (k : ℕ) where
   -- every total for k is an amount
   abbrev TotalsAre : Type 0
-  TotalsAre = (n : ℕ) → IsStarted w n → isAmount (totalOf w k n) ≡ true
+  TotalsAre = (n : ℕ) → IsGiven w n → isAmount (totalOf w k n) ≡ true
 
   -- then each of them fits with all that it is made of
-  amounts-fit : TotalsAre → (levels n : ℕ) → IsStarted w n → mostActions < levels + n → fitsWithin levels w k n ≡ true
+  amounts-fit : TotalsAre → (levels n : ℕ) → IsGiven w n → mostActions < levels + n → fitsWithin levels w k n ≡ true
   unfolding fitsWithin
   amounts-fit are zero n known enough = refl
   amounts-fit are (suc levels) n known enough =
@@ -39,15 +39,15 @@ module _ {w : List ℕ} (s : Sound w) (k : ℕ) where
       (λ m child under. amounts-fit are levels m child (omega (arith, s .below m child, under))))
       (ap isAmount (total-enough s k (suc levels) n known enough) ∙ are n known)
 
-  pub totals-fit : TotalsAre → (n : ℕ) → IsStarted w n → fitsWithin mostActions w k n ≡ true
+  pub totals-fit : TotalsAre → (n : ℕ) → IsGiven w n → fitsWithin mostActions w k n ≡ true
   totals-fit are n known = amounts-fit are mostActions n known (omega arith)
 
   -- the test of all actions
   pub tested-totals : (all (fitsWithin mostActions w k) (actions w) ≡ true) ↔ TotalsAre
   unfolding actions totalOf
   tested-totals = (
-    λ fits n known. fitting-is-amount mostActions w k n (all-at _ 1 (started w) n fits (omega arith)),
-    λ are. all-of _ 1 (started w) (λ n h. totals-fit are n (omega arith)),
+    λ fits n known. fitting-is-amount mostActions w k n (all-at _ 1 (highest w) n fits (omega arith)),
+    λ are. all-of _ 1 (highest w) (λ n h. totals-fit are n (omega arith)),
   )
 
   -- a total for k is no amount
@@ -58,11 +58,11 @@ module _ {w : List ℕ} (s : Sound w) (k : ℕ) where
   pub none-outside : (isFigureOutside w k ≡ false) ↔ (TotalsAre × (isAmount (topSum w k) ≡ true))
   unfolding isFigureOutside actions
   none-outside =
-      let parts = or-fails (any isOutside (upFrom 1 (started w))) (not (isAmount (topSum w k))) in (
+      let parts = or-fails (any isOutside (upFrom 1 (highest w))) (not (isAmount (topSum w k))) in (
         λ none.
             let (totals, sum) = parts .0 none in
-            (λ n known. not-fails _ .0 (not-any-at isOutside 1 (started w) n totals (omega arith)), not-fails _ .0 sum),
-        λ are. parts .1 (not-any isOutside 1 (started w) (λ n h. not-fails _ .1 (are .0 n (omega arith))), not-fails _ .1 (are .1)),
+            (λ n known. not-fails _ .0 (not-any-at isOutside 1 (highest w) n totals (omega arith)), not-fails _ .0 sum),
+        λ are. parts .1 (not-any isOutside 1 (highest w) (λ n h. not-fails _ .1 (are .0 n (omega arith))), not-fails _ .1 (are .1)),
       )
 
   -- a total that doesn't fit decides
@@ -80,7 +80,7 @@ module _ {w : List ℕ} (s : Sound w) (k : ℕ) where
   sum-decides fits =
       let are = tested-totals .0 fits in
       let tops = all-children w 0 (fitsWithin mostActions w k) (λ m known _. totals-fit are m known) in
-      let none = not-any isOutside 1 (started w) (λ n h. not-fails _ .1 (are n (omega arith))) in
+      let none = not-any isOutside 1 (highest w) (λ n h. not-fails _ .1 (are n (omega arith))) in
       rw (tops, none) (figureIf-fits (isAmount (topSum w k)) (topSum w k) ∙ sym (not-not (isAmount (topSum w k))))
     where
       not-not : (b : Bool) → not (not b) ≡ b
@@ -97,7 +97,7 @@ figures-fit {w} s none =
       sums = λ k charge. here k charge .1;
     }
   where
-    here : (k : ℕ) → IsCharge k → ((n : ℕ) → IsStarted w n → isAmount (totalOf w k n) ≡ true) × (isAmount (topSum w k) ≡ true)
+    here : (k : ℕ) → IsCharge k → ((n : ℕ) → IsGiven w n → isAmount (totalOf w k n) ≡ true) × (isAmount (topSum w k) ≡ true)
     here k charge = none-outside s k .0 (not-any-at (isFigureOutside w) firstCharge chargeCount k none (charge-within charge))
 
 -- ---- the words of figures that fit
@@ -111,7 +111,7 @@ store-word store k word there short = ap amountWord (base-amount-at store k ∙ 
 
 module _ {w : List ℕ} (fit : FiguresFit w) where
   pub total-word :
-      (n k : ℕ) → IsStarted w n → IsCharge k → totalFigure mostActions w k n .word ≡ amountWord (totalOf w k n)
+      (n k : ℕ) → IsGiven w n → IsCharge k → totalFigure mostActions w k n .word ≡ amountWord (totalOf w k n)
   unfolding totalOf
   total-word n k known charge = rw (fit .totals n k known charge)
 

@@ -8,7 +8,7 @@ use lib.ListN.{length, length-append}
 use lib.Seq.{sets, length-sets}
 use Rattle.rules.specs.Range.{upFrom, filter}
 use Rattle.rules.specs.Card.{chargeAccounts}
-use Rattle.rules.specs.Table.{started, actions, isChildOf}
+use Rattle.rules.specs.Table.{highest, actions, isChildOf}
 use Rattle.rules.specs.Tree.{Line, children, linesWithin, figuresOf, lineLength, lineWords}
 use Rattle.rules.proofs.Laws.Ranges.{filter-left-here, filter-left-next, filter-left-done}
 use Rattle.report.specs.Lined.{lineAtDepth, actionLines, childrenFrom, linesFrom, HasLineRoom, IsLined}
@@ -80,22 +80,22 @@ module _ (levels : ℕ) (w : List ℕ) (depth p : ℕ) where
   pub lines-under : linesWithin (suc levels) w depth p ≡ linesFrom levels w depth p 1
   unfolding linesWithin linesFrom actionLines childrenFrom children actions
   lines-under =
-      let all : started w ≡ started w + 1 - 1 = omega arith in
+      let all : highest w ≡ highest w + 1 - 1 = omega arith in
       ap (λ many. flatMap (actionLines levels w depth) (filter (isChildOf w p) (upFrom 1 many))) all
 
   module _ (i : ℕ) where
-    pub lines-done : started w < i → linesFrom levels w depth p i ≡ []
+    pub lines-done : highest w < i → linesFrom levels w depth p i ≡ []
     unfolding linesFrom childrenFrom flatMap
-    lines-done over = rw (filter-left-done (isChildOf w p) i (started w + 1) (omega arith))
+    lines-done over = rw (filter-left-done (isChildOf w p) i (highest w + 1) (omega arith))
 
     pub lines-here :
-        i ≤ started w → isChildOf w p i ≡ true → linesFrom levels w depth p i ≡ actionLines levels w depth i ++ linesFrom levels w depth p (i + 1)
+        i ≤ highest w → isChildOf w p i ≡ true → linesFrom levels w depth p i ≡ actionLines levels w depth i ++ linesFrom levels w depth p (i + 1)
     unfolding linesFrom childrenFrom flatMap
-    lines-here within is = rw (filter-left-here (isChildOf w p) i (started w + 1) (omega arith) is)
+    lines-here within is = rw (filter-left-here (isChildOf w p) i (highest w + 1) (omega arith) is)
 
-    pub lines-next : i ≤ started w → isChildOf w p i ≡ false → linesFrom levels w depth p i ≡ linesFrom levels w depth p (i + 1)
+    pub lines-next : i ≤ highest w → isChildOf w p i ≡ false → linesFrom levels w depth p i ≡ linesFrom levels w depth p (i + 1)
     unfolding linesFrom childrenFrom
-    lines-next within isnt = rw (filter-left-next (isChildOf w p) i (started w + 1) (omega arith) isnt)
+    lines-next within isnt = rw (filter-left-next (isChildOf w p) i (highest w + 1) (omega arith) isnt)
 
 -- ---- the lines of an action: its own, and those of its children
 

@@ -7,14 +7,14 @@ use lib.ListN.{length}
 use Rattle.rules.specs.Card.{IsCharge}
 use Rattle.rules.specs.Amount.{isAmount}
 use Rattle.rules.specs.Table.{mostActions}
-use Rattle.rules.specs.Sound.{IsStarted, Sound}
+use Rattle.rules.specs.Sound.{IsGiven, Sound}
 use Rattle.rules.specs.Tree.{topSum, reportLength}
 use Rattle.totals.specs.Total.{fitsWithin}
 
 -- the table is sound, and every figure of its tree is an amount
 pub record FiguresFit (w : List ℕ) : Type 0 where
   pub sound : Sound w
-  pub totals : (n k : ℕ) → IsStarted w n → IsCharge k → fitsWithin mostActions w k n ≡ true
+  pub totals : (n k : ℕ) → IsGiven w n → IsCharge k → fitsWithin mostActions w k n ≡ true
   pub sums : (k : ℕ) → IsCharge k → isAmount (topSum w k) ≡ true
 
 -- how many words an account has in a line, and all accounts together

@@ -5,7 +5,7 @@ use mathlib.Core.List.{List, _∷_, flatMap}
 use lib.ListN.{length}
 use lib.Seq.{sets}
 use Rattle.rules.specs.Range.{upFrom, filter}
-use Rattle.rules.specs.Table.{mostActions, started, isChildOf}
+use Rattle.rules.specs.Table.{mostActions, highest, isChildOf}
 use Rattle.rules.specs.Tree.{Line, linesWithin, lineLength, lineWords, blockPlace, reportLength}
 
 abbrev pub lineAtDepth : ℕ → ℕ → Line
@@ -17,7 +17,7 @@ actionLines levels w depth n = lineAtDepth depth n ∷ linesWithin levels w (suc
 
 -- p's children from i on, and the lines of all of them; from 1 on they are those under p (proofs/Lining.antt)
 unfoldable pub childrenFrom : List ℕ → ℕ → ℕ → List ℕ
-childrenFrom w p i = filter (isChildOf w p) (upFrom i (started w + 1 - i))
+childrenFrom w p i = filter (isChildOf w p) (upFrom i (highest w + 1 - i))
 
 unfoldable pub linesFrom : ℕ → List ℕ → ℕ → ℕ → ℕ → List Line
 linesFrom levels w depth p i = flatMap (actionLines levels w depth) (childrenFrom w p i)

@@ -9,7 +9,7 @@ ghost use Rattle.rules.specs.Tree.{isFigureOutside, treeCause};
 ghost use Rattle.rows.specs.Row.{Scannable};
 ghost use Rattle.totals.specs.Total.{fitsWithin};
 use causes::cause::store_cause;
-use rows::fields::last_start;
+use rows::fields::highest;
 use rules::cause;
 use rules::report::MOST_LEVELS;
 use rules::store::ACCOUNTS;
@@ -24,7 +24,7 @@ fn totals_fit(table: &[u64], k: u64) -> bool
     requires { ⌜ IsCharge k ⌝ }
     ensures { λ r. ⌜ r ≡ all (fitsWithin mostActions (now (table .entry)) k) (actions (now (table .entry))) ⌝ }
 {
-    let last = last_start(table);
+    let last = highest(table);
     for n in 1..last + 1 {
         if !total(table, n, k, MOST_LEVELS).fits {
             return false;

@@ -4,7 +4,7 @@ ghost use mathlib.Core.List.{map};
 ghost use lib.Seq.{sets};
 ghost use Rattle.rules.specs.Card.{IsCharge};
 ghost use Rattle.rules.specs.Amount.{amountWord};
-ghost use Rattle.rules.specs.Sound.{IsStarted};
+ghost use Rattle.rules.specs.Sound.{IsGiven};
 ghost use Rattle.rules.specs.Tree.{accountFigures, figuresOf};
 ghost use Rattle.report.specs.Asked.{FiguresFit, HasRoomFor, accountWords, figureWords};
 use rows::fields::own_adds;
@@ -18,7 +18,7 @@ use totals::total::total;
 // Those for one account: own adds, then total.
 fn put_account(table: &[u64], report: &mut [u64], at: usize, n: u64, k: u64)
     requires { ⌜ FiguresFit (now table) ⌝ }
-    requires { ⌜ IsStarted (now table) n × IsCharge k ⌝ }
+    requires { ⌜ IsGiven (now table) n × IsCharge k ⌝ }
     requires { ⌜ HasRoomFor accountWords (now report) at ⌝ }
     ensures { λ r. ⌜ now (report .exit)
         ≡ sets (now (report .entry)) at (map amountWord (accountFigures (now (table .entry)) n k)) ⌝ }
@@ -31,7 +31,7 @@ fn put_account(table: &[u64], report: &mut [u64], at: usize, n: u64, k: u64)
 
 pub(crate) fn put_figures(table: &[u64], report: &mut [u64], from: usize, n: u64)
     requires { ⌜ FiguresFit (now table) ⌝ }
-    requires { ⌜ IsStarted (now table) n ⌝ }
+    requires { ⌜ IsGiven (now table) n ⌝ }
     requires { ⌜ HasRoomFor figureWords (now report) from ⌝ }
     ensures { λ r. ⌜ now (report .exit)
         ≡ sets (now (report .entry)) from (map amountWord (figuresOf (now (table .entry)) n)) ⌝ }

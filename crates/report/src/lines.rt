@@ -1,7 +1,7 @@
 // The lines of the tree: an action's, and directly below it those of its children, each with its own in turn.
 ghost use mathlib.Core.Path.{_≡_};
 ghost use lib.Seq.{sets};
-ghost use Rattle.rules.specs.Sound.{IsStarted};
+ghost use Rattle.rules.specs.Sound.{IsGiven};
 ghost use Rattle.rules.specs.Table.{isChildOf};
 ghost use Rattle.rules.specs.Tree.{lineLength, lineWords};
 ghost use Rattle.rows.specs.Row.{HasRow};
@@ -9,7 +9,7 @@ ghost use Rattle.totals.specs.Total.{IsNext};
 ghost use Rattle.report.specs.Asked.{FiguresFit, HasRoomFor};
 ghost use Rattle.report.specs.Lined.{HasLevels, HasLineRoom, lineAtDepth, actionLines, linesFrom, IsLined};
 use crate::figures::put_figures;
-use rows::fields::last_start;
+use rows::fields::highest;
 use rows::fields::parent;
 use rows::fields::state;
 use rules::report::FIGURES_AT;
@@ -26,7 +26,7 @@ fn is_child(table: &[u64], p: u64, m: u64) -> bool
 
 fn put_line(table: &[u64], report: &mut [u64], at: usize, n: u64, depth: u64)
     requires { ⌜ FiguresFit (now table) ⌝ }
-    requires { ⌜ IsStarted (now table) n ⌝ }
+    requires { ⌜ IsGiven (now table) n ⌝ }
     requires { ⌜ HasRoomFor lineLength (now report) at ⌝ }
     ensures { λ r. ⌜ now (report .exit)
         ≡ sets (now (report .entry)) at (lineWords (now (table .entry)) (lineAtDepth depth n)) ⌝ }
@@ -47,7 +47,7 @@ fn put_action(
     levels: u64,
 ) -> usize
     requires { ⌜ FiguresFit (now table) ⌝ }
-    requires { ⌜ IsStarted (now table) n ⌝ }
+    requires { ⌜ IsGiven (now table) n ⌝ }
     requires { ⌜ HasLevels depth levels ⌝ }
     requires { ⌜ HasLineRoom (now report) at (actionLines levels (now table) depth n) ⌝ }
     ensures { λ r. ⌜ IsLined (now (table .entry)) (now (report .entry)) at
@@ -78,7 +78,7 @@ pub(crate) fn put_list(
     ensures { λ r. ⌜ IsLined (now (table .entry)) (now (report .entry)) at
         (linesFrom levels (now (table .entry)) depth p i) (now (report .exit)) r ⌝ }
 {
-    if last_start(table) < i {
+    if highest(table) < i {
         return at;
     }
     if !is_child(table, p, i) {

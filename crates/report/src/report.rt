@@ -4,7 +4,7 @@ ghost use Rattle.rules.specs.Tree.{reportOf, report};
 use crate::balance::put_block;
 use crate::cause::tree_cause;
 use crate::lines::put_list;
-use rows::fields::last_start;
+use rows::fields::highest;
 use rules::cause::NONE;
 use rules::report::MOST_LEVELS;
 use rules::report::NO_LINES;
@@ -32,6 +32,6 @@ pub fn report(
     }
     put_list(table, out, 0, STORE, 1, TOP, MOST_LEVELS - 1);
     put_block(table, base, opening, out);
-    *lines = last_start(table);
+    *lines = highest(table);
     NONE
 }

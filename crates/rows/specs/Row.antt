@@ -6,17 +6,17 @@ use mathlib.Core.List.{List}
 use lib.ListN.{length}
 use Rattle.rules.specs.Range.{upFrom}
 use Rattle.rules.specs.Card.{accountCount}
-use Rattle.rules.specs.Table.{width, tableLength, mostActions, started}
+use Rattle.rules.specs.Table.{width, tableLength, mostActions, highest}
 
 -- w has a table's length, and n is the number of one of its rows
 pub record HasRow (w : List ℕ) (n : ℕ) : Type 0 where
   pub long : length w ≡ tableLength
   pub known : n ≤ mostActions
 
--- w has a table's length, and its last start is the number of a row: a scan of its actions stays inside
+-- w has a table's length, and its highest number is that of a row: a scan of its actions stays inside
 pub record Scannable (w : List ℕ) : Type 0 where
   pub long : length w ≡ tableLength
-  pub few : started w ≤ mostActions
+  pub few : highest w ≤ mostActions
 
 -- two rows are not the same
 abbrev pub AreTwo : ℕ → ℕ → Type 0

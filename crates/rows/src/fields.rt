@@ -2,38 +2,38 @@
 ghost use mathlib.Core.Path.{_≡_};
 ghost use Rattle.rules.specs.Card.{IsAccount, IsCharge};
 ghost use Rattle.rules.specs.Kind.{kindUnder};
-ghost use Rattle.rules.specs.Table.{started, withStarted, parentOf, withParent, kindOf, stateOf, withState, hasRead, hasWritten, hasCard, writeEntry, withWrite, pendingWord, withPending, ownAddsWord, withOwnAdds, isLive, isCommitted};
+ghost use Rattle.rules.specs.Table.{highest, withHighest, parentOf, withParent, kindOf, stateOf, withState, hasRead, hasWritten, hasCard, writeEntry, withWrite, pendingWord, withPending, ownAddsWord, withOwnAdds, isLive, isCommitted};
 ghost use Rattle.rows.specs.Row.{HasRow};
 use crate::words::get;
 use crate::words::put;
 use rules::store::FIRST_CHARGE;
 use rules::table::COMMITTED;
 use rules::table::HEAD;
+use rules::table::HIGHEST_FIELD;
 use rules::table::LIVE;
 use rules::table::NO_ENTRY;
 use rules::table::OWN_ADDS_FIELDS;
 use rules::table::PARENT_FIELD;
 use rules::table::PENDING_FIELDS;
 use rules::table::READ_FIELDS;
-use rules::table::STARTED_FIELD;
 use rules::table::STATE_FIELD;
 use rules::table::STORE;
 use rules::table::SUB;
 use rules::table::TOP;
 use rules::table::WRITE_FIELDS;
 
-pub fn last_start(table: &[u64]) -> u64
+pub fn highest(table: &[u64]) -> u64
     requires { ⌜ HasRow (now table) 0 ⌝ }
-    ensures { λ r. ⌜ r ≡ started (now (table .entry)) ⌝ }
+    ensures { λ r. ⌜ r ≡ highest (now (table .entry)) ⌝ }
 {
-    get(table, HEAD, STARTED_FIELD)
+    get(table, HEAD, HIGHEST_FIELD)
 }
 
-pub fn set_last_start(table: &mut [u64], v: u64)
+pub fn set_highest(table: &mut [u64], v: u64)
     requires { ⌜ HasRow (now table) 0 ⌝ }
-    ensures { λ r. ⌜ now (table .exit) ≡ withStarted (now (table .entry)) v ⌝ }
+    ensures { λ r. ⌜ now (table .exit) ≡ withHighest (now (table .entry)) v ⌝ }
 {
-    put(table, HEAD, STARTED_FIELD, v);
+    put(table, HEAD, HIGHEST_FIELD, v);
 }
 
 pub fn parent(table: &[u64], n: u64) -> u64

@@ -7,7 +7,7 @@ use lib.IntN.{_+ℤ_}
 use Rattle.rules.specs.Card.{IsCharge}
 use Rattle.rules.specs.Amount.{isAmount, baseAmount}
 use Rattle.rules.specs.Table.{pendingSum}
-use Rattle.rules.specs.Sound.{IsStarted}
+use Rattle.rules.specs.Sound.{IsGiven}
 use Rattle.rules.specs.Event.{Event}
 use Rattle.rules.specs.Ledger.{Ledger}
 use Rattle.rules.specs.Run.{run}
@@ -22,7 +22,7 @@ ledgerAfter base shadow es = run (newOver base shadow) es .after
 pub record Balanced (base shadow : List ℕ) (es : List Event) : Type 0 where
   -- each action's total is its pending sum, whatever its state
   pub totals :
-      (n k : ℕ) → IsStarted (ledgerAfter base shadow es .table) n → IsCharge k →
+      (n k : ℕ) → IsGiven (ledgerAfter base shadow es .table) n → IsCharge k →
       pendingSum (ledgerAfter base shadow es .table) n k ≡ totalOf (ledgerAfter base shadow es .table) k n
   -- opening and sum make closing
   pub closes :

@@ -8,7 +8,7 @@ use lib.IntN.{ℤ, _+ℤ_}
 use Rattle.rules.specs.Card.{accountCount, isCharge, chargeAccounts, cardLength, baseLength, shadowLength}
 use Rattle.rules.specs.Amount.{isAmount, isAddable, amountIn}
 use Rattle.rules.specs.Range.{any}
-use Rattle.rules.specs.Table.{mostActions, started, parentOf, kindOf, hasWritten, pendingSum, ownAdds, isLive, hasLiveChild}
+use Rattle.rules.specs.Table.{mostActions, highest, parentOf, kindOf, hasWritten, pendingSum, ownAdds, isLive, hasLiveChild}
 use Rattle.rules.specs.Held.{heldSum}
 use Rattle.rules.specs.Sound.{sound}
 use Rattle.rules.specs.Queue.{queueLength, isQueued, isQueuedReady, isWaiting}
@@ -50,7 +50,7 @@ numberCause = 4
 
 -- the second part is whether the event is a start, whose number may be 0
 abbrev pub isNumberUnknown : List ℕ → Bool → ℕ → Bool
-isNumberUnknown w start n = ltb (started w) n || eqb n 0 && not start
+isNumberUnknown w start n = ltb (highest w) n || eqb n 0 && not start
 
 abbrev pub notLiveCause : ℕ
 notLiveCause = 5
@@ -63,7 +63,7 @@ abbrev pub tableFullCause : ℕ
 tableFullCause = 6
 
 abbrev pub isTableFull : List ℕ → Bool → Bool
-isTableFull w start = start && leb mostActions (started w)
+isTableFull w start = start && leb mostActions (highest w)
 
 -- from here on the Bool is whether the event uses what the cause asks of
 abbrev pub accountCause : ℕ

@@ -6,7 +6,7 @@ use mathlib.Core.Path.{_≡_}
 use Rattle.rules.specs.Range.{fold}
 use Rattle.rules.specs.Card.{accountCount, accounts, IsAccount, IsCharge, StoresFit}
 use Rattle.rules.specs.Table.{parentOf}
-use Rattle.rules.specs.Sound.{IsStarted, Sound}
+use Rattle.rules.specs.Sound.{IsGiven, Sound}
 use Rattle.rules.specs.Ledger.{Ledger}
 use Rattle.rules.specs.Held.{heldCard, heldSum}
 use Rattle.rules.specs.Commit.{copyOne, copiedDown, committedUnder}
@@ -25,11 +25,11 @@ pub record LastFirst (s : Ledger) (n p k : ℕ) : Type 0 where
 -- It is so after every turn, also after none, of the commit of any action of any sound table.
 abbrev pub CopiesLastFirst : Type 0
 CopiesLastFirst =
-    (s : Ledger) → Sound (s .table) → StoresFit (s .base) (s .shadow) → (n : ℕ) → IsStarted (s .table) n → (k : ℕ) →
+    (s : Ledger) → Sound (s .table) → StoresFit (s .base) (s .shadow) → (n : ℕ) → IsGiven (s .table) n → (k : ℕ) →
     k ≤ accountCount → LastFirst s n (parentOf (s .table) n) k
 
 -- With the accounts rising all turns together leave the same.
 abbrev pub CopiesTellNoOrder : Type 0
 CopiesTellNoOrder =
-    (s : Ledger) → Sound (s .table) → StoresFit (s .base) (s .shadow) → (n : ℕ) → IsStarted (s .table) n →
+    (s : Ledger) → Sound (s .table) → StoresFit (s .base) (s .shadow) → (n : ℕ) → IsGiven (s .table) n →
     let p = parentOf (s .table) n in copiedDown s n p 0 ≡ fold (λ k now. copyOne now n p k) accounts s

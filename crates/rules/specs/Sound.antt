@@ -10,7 +10,7 @@ use lib.ListN.{length}
 use Rattle.rules.specs.Range.{upFrom, any, all, count}
 use Rattle.rules.specs.Kind.{IsKind, kinds}
 use Rattle.rules.specs.Card.{accountCount, accounts, IsCharge, chargeAccounts}
-use Rattle.rules.specs.Table.{tableLength, mostActions, live, committed, aborted, started, counter, parentOf, kindOf, stateOf, endTime, hasRead, readTime, hasWritten, pendingWord, isLive, isCommitted, hasEnd, actions, hasLiveChild}
+use Rattle.rules.specs.Table.{tableLength, mostActions, live, committed, aborted, highest, counter, parentOf, kindOf, stateOf, endTime, hasRead, readTime, hasWritten, pendingWord, isLive, isCommitted, hasEnd, actions, hasLiveChild}
 use Rattle.rules.specs.Queue.{queueLength, queue, isQueued}
 
 -- 7.3: n has committed, and is of kind h
@@ -69,7 +69,7 @@ isSoundAction w n =
 
 -- 7.12: n is the number of a live action of kind h without a live child
 unfoldable pub mayWait : List ℕ → ℕ → ℕ → Bool
-mayWait w h n = leb 1 n && leb n (started w) && isLive w n && eqb (kindOf w n) h && not (hasLiveChild w n)
+mayWait w h n = leb 1 n && leb n (highest w) && isLive w n && eqb (kindOf w n) h && not (hasLiveChild w n)
 
 -- 7.13: each of these numbers stands here once
 unfoldable pub areDistinct : List ℕ → Bool
@@ -85,22 +85,22 @@ unfoldable pub isSoundQueue : List ℕ → ℕ → Bool
 isSoundQueue w h =
     leb (queueLength w h) mostActions && all (mayWait w h) (queueNumbers w h) && areDistinct (queueNumbers w h)
 
--- 7.1 the length, 7.2 the last start, 7.3 the counters, and those clauses of each action and of each queue
+-- 7.1 the length, 7.2 the highest number, 7.3 the counters, and those clauses of each action and of each queue
 unfoldable pub sound : List ℕ → Bool
 sound w =
     eqb (length w) tableLength
-    && leb (started w) mostActions
+    && leb (highest w) mostActions
     && all (isCounted w) kinds
     && all (isSoundAction w) (actions w)
     && all (isSoundQueue w) kinds
 
 -- n is the number of a started action
-abbrev pub IsStarted : List ℕ → ℕ → Type 0
-IsStarted w n = (1 ≤ n) × (n ≤ started w)
+abbrev pub IsGiven : List ℕ → ℕ → Type 0
+IsGiven w n = (1 ≤ n) × (n ≤ highest w)
 
 -- The same clauses as facts: of an action that waits in queue h,
 pub record MayWait (w : List ℕ) (h n : ℕ) : Type 0 where
-  pub begun : IsStarted w n
+  pub begun : IsGiven w n
   pub alive : isLive w n ≡ true
   pub kind : kindOf w n ≡ h
   pub childless : hasLiveChild w n ≡ false
@@ -114,17 +114,17 @@ pub record SoundQueue (w : List ℕ) (h : ℕ) : Type 0 where
 -- and of the table
 pub record Sound (w : List ℕ) : Type 0 where
   pub long : length w ≡ tableLength
-  pub few : started w ≤ mostActions
+  pub few : highest w ≤ mostActions
   pub counted : (h : ℕ) → IsKind h → counter w h ≤ count (isCommittedOf w h) (actions w)
-  pub states : (n : ℕ) → IsStarted w n → hasState w n ≡ true
-  pub below : (n : ℕ) → IsStarted w n → parentOf w n < n
-  pub alive : (n : ℕ) → IsStarted w n → isLive w n ≡ true → (parentOf w n ≡ 0) ⊎ (isLive w (parentOf w n) ≡ true)
+  pub states : (n : ℕ) → IsGiven w n → hasState w n ≡ true
+  pub below : (n : ℕ) → IsGiven w n → parentOf w n < n
+  pub alive : (n : ℕ) → IsGiven w n → isLive w n ≡ true → (parentOf w n ≡ 0) ⊎ (isLive w (parentOf w n) ≡ true)
   pub reads :
-      (h n k : ℕ) → IsKind h → IsStarted w n → isLive w n ≡ true → k < accountCount → hasRead w n k ≡ true →
+      (h n k : ℕ) → IsKind h → IsGiven w n → isLive w n ≡ true → k < accountCount → hasRead w n k ≡ true →
       readTime w h n k ≤ counter w h
-  pub ends : (n : ℕ) → IsStarted w n → hasEnd w n ≡ true → (1 ≤ endTime w n) × (endTime w n ≤ counter w (kindOf w n))
+  pub ends : (n : ℕ) → IsGiven w n → hasEnd w n ≡ true → (1 ≤ endTime w n) × (endTime w n ≤ counter w (kindOf w n))
   pub alone :
-      (n m : ℕ) → IsStarted w n → IsStarted w m → hasEnd w n ≡ true → hasEnd w m ≡ true →
+      (n m : ℕ) → IsGiven w n → IsGiven w m → hasEnd w n ≡ true → hasEnd w m ≡ true →
       parentOf w m ≡ parentOf w n → endTime w m ≡ endTime w n → m ≡ n
-  pub pendings : (n k : ℕ) → IsStarted w n → IsCharge k → hasWritten w n k ≡ false → pendingWord w n k ≡ 0
+  pub pendings : (n k : ℕ) → IsGiven w n → IsCharge k → hasWritten w n k ≡ false → pendingWord w n k ≡ 0
   pub lines : (h : ℕ) → IsKind h → SoundQueue w h

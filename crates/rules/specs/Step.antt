@@ -11,7 +11,7 @@ use Rattle.rules.specs.Range.{count, fold}
 use Rattle.rules.specs.Card.{isCharge, shadowPlace, withCard}
 use Rattle.rules.specs.Amount.{amountWord, amountIn}
 use Rattle.rules.specs.Kind.{topKind, subKind}
-use Rattle.rules.specs.Table.{live, aborted, started, withStarted, counter, parentOf, withParent, kindOf, withState, withEndTime, withRead, hasRead, withSubTime, withWrite, entered, hasCard, withPending, pendingSum, ownAdds, withOwnAdds, withoutAdds, withSets, actions}
+use Rattle.rules.specs.Table.{live, aborted, highest, withHighest, counter, parentOf, withParent, kindOf, withState, withEndTime, withRead, hasRead, withSubTime, withWrite, entered, hasCard, withPending, pendingSum, ownAdds, withOwnAdds, withoutAdds, withSets, actions}
 use Rattle.rules.specs.Walk.{isAbortedBy}
 use Rattle.rules.specs.Queue.{queueLength, headOf, isHeadReady, isQueuedFailed, withTail, withReady, withoutBelow}
 use Rattle.rules.specs.Event.{Event, isStart, isRead, isWrite, isCommit, isAbort, isAdd, isEnter, isJudge}
@@ -36,12 +36,12 @@ outcomeOf answer table base shadow = record { answer = answer; after = ledgerOf 
 
 unfoldable pub startTable : List ℕ → ℕ → List ℕ
 startTable w p =
-    let n = started w + 1 in
-    let opened = withEndTime (withState (withParent (withStarted w n) n p) n live) n 0 in
+    let n = highest w + 1 in
+    let opened = withEndTime (withState (withParent (withHighest w n) n p) n live) n 0 in
     withSets (withoutAdds opened n) n (λ k. 0) (λ k. 0) (λ k. 0) (λ k. 0)
 
 unfoldable pub start : Ledger → ℕ → Outcome
-start s p = record { answer = Started (started (s .table) + 1); after = withTable s (startTable (s .table) p) }
+start s p = record { answer = Started (highest (s .table) + 1); after = withTable s (startTable (s .table) p) }
 
 -- ---- RULES 2.3: read
 

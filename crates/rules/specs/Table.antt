@@ -48,15 +48,15 @@ newTable = replicate tableLength 0
 
 -- ---- the head
 
--- RULES 1.3: the last start
-abbrev pub startedField : ℕ
-startedField = 0
+-- RULES 1.3: the highest number given so far
+abbrev pub highestField : ℕ
+highestField = 0
 
-abbrev pub started : List ℕ → ℕ
-started w = word w 0 startedField
+abbrev pub highest : List ℕ → ℕ
+highest w = word w 0 highestField
 
-abbrev pub withStarted : List ℕ → ℕ → List ℕ
-withStarted w v = withWord w 0 startedField v
+abbrev pub withHighest : List ℕ → ℕ → List ℕ
+withHighest w v = withWord w 0 highestField v
 
 -- RULES 1.6: the counter of kind h
 abbrev pub counterFields : ℕ
@@ -248,9 +248,9 @@ hasEnd w n = isCommitted w n && hasWrites w n
 
 -- ---- the actions of a table, and the children of a parent
 
--- the numbers up to the last start; every scan is over these
+-- the numbers given so far; every scan is over these
 unfoldable pub actions : List ℕ → List ℕ
-actions w = upFrom 1 (started w)
+actions w = upFrom 1 (highest w)
 
 abbrev pub isChildOf : List ℕ → ℕ → ℕ → Bool
 isChildOf w p m = eqb (parentOf w m) p

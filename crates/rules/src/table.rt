@@ -16,7 +16,7 @@ pub const TOP: u64 = 0;
 pub const SUB: u64 = 1;
 
 // Words of the head.
-pub const STARTED_FIELD: u64 = 0;
+pub const HIGHEST_FIELD: u64 = 0;
 
 pub const COUNTER_FIELDS: u64 = 1;
 

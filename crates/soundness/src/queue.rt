@@ -11,9 +11,9 @@ ghost use Rattle.soundness.specs.Positions.{standsFrom};
 use ancestry::children::has_live_child;
 use rows::entries::entry_number;
 use rows::entries::queue_length;
+use rows::fields::highest;
 use rows::fields::is_live;
 use rows::fields::kind_of;
-use rows::fields::last_start;
 use rules::queue::FIRST_POSITION;
 use rules::table::MOST_ACTIONS;
 use rules::table::STORE;
@@ -28,7 +28,7 @@ fn may_wait(table: &[u64], h: u64, n: u64) -> bool
     if n == STORE {
         return false;
     }
-    if last_start(table) < n {
+    if highest(table) < n {
         return false;
     }
     if !is_live(table, n) {

@@ -7,9 +7,9 @@ ghost use Rattle.rules.specs.Sound.{isCommittedOf, isCounted, isSoundAction, so
 ghost use Rattle.rows.specs.Row.{HasRow, Scannable};
 use crate::action::is_sound_action;
 use crate::queue::are_sound_queues;
+use rows::fields::highest;
 use rows::fields::is_committed;
 use rows::fields::kind_of;
-use rows::fields::last_start;
 use rows::times::counts_at_most;
 use rules::table::MOST_ACTIONS;
 use rules::table::SUB;
@@ -30,7 +30,7 @@ fn count_committed(table: &[u64], h: u64) -> u64
     requires { ⌜ Scannable (now table) ⌝ }
     ensures { λ r. ⌜ r ≡ count (isCommittedOf (now (table .entry)) h) (actions (now (table .entry))) ⌝ }
 {
-    let last = last_start(table);
+    let last = highest(table);
     let mut found = 0;
     for n in 1..last + 1 {
         if is_committed_of(table, h, n) {
@@ -62,7 +62,7 @@ fn all_sound(table: &[u64]) -> bool
     requires { ⌜ Scannable (now table) ⌝ }
     ensures { λ r. ⌜ r ≡ all (isSoundAction (now (table .entry))) (actions (now (table .entry))) ⌝ }
 {
-    let last = last_start(table);
+    let last = highest(table);
     for n in 1..last + 1 {
         if !is_sound_action(table, n) {
             return false;
@@ -77,7 +77,7 @@ pub fn is_sound(table: &[u64]) -> bool
     if table.len() != TABLE_LENGTH {
         return false;
     }
-    if MOST_ACTIONS < last_start(table) {
+    if MOST_ACTIONS < highest(table) {
         return false;
     }
     if !are_counted(table) {

@@ -1,17 +1,17 @@
 // A new table, and a table's three numbers: all that a caller asks of a table outside of events.
 ghost use mathlib.Core.Path.{_≡_};
 ghost use Rattle.rules.specs.Kind.{topKind, subKind};
-ghost use Rattle.rules.specs.Table.{started, counter};
+ghost use Rattle.rules.specs.Table.{highest, counter};
 ghost use Rattle.table.specs.Open.{openCause, openTable};
 use rules::cause;
 use rules::table::COUNTER_FIELDS;
-use rules::table::STARTED_FIELD;
+use rules::table::HIGHEST_FIELD;
 use rules::table::SUB;
 use rules::table::TABLE_LENGTH;
 use rules::table::TOP;
 
 // The head is the table's first row, so that its fields stand where they are numbered.
-const STARTED_AT: usize = STARTED_FIELD as usize;
+const HIGHEST_AT: usize = HIGHEST_FIELD as usize;
 
 const TOP_COUNTER_AT: usize = (COUNTER_FIELDS + TOP) as usize;
 
@@ -33,14 +33,14 @@ pub fn open(table: &mut [u64]) -> u64
     cause::NONE
 }
 
-// The last start, of any table: 0 where it has no such word.
-pub fn started(table: &[u64]) -> u64
-    ensures { λ r. ⌜ r ≡ started (now (table .entry)) ⌝ }
+// The highest number given, of any table: 0 where it has no such word.
+pub fn highest(table: &[u64]) -> u64
+    ensures { λ r. ⌜ r ≡ highest (now (table .entry)) ⌝ }
 {
-    if table.len() <= STARTED_AT {
+    if table.len() <= HIGHEST_AT {
         return 0;
     }
-    table[STARTED_AT]
+    table[HIGHEST_AT]
 }
 
 // The topactions' counter, of any table: 0 where it has no such word.

@@ -6,8 +6,8 @@ use mathlib.Core.Bool.{Bool, true, false, cond, not, _&&_, _||_}
 use mathlib.Core.List.{List, [], _∷_}
 use borrow.Author.Tests.{eqb-true}
 use Rattle.rules.specs.Range.{upFrom, all, filter}
-use Rattle.rules.specs.Table.{started, parentOf, isCommitted, actions, isChildOf}
-use Rattle.rules.specs.Sound.{IsStarted}
+use Rattle.rules.specs.Table.{highest, parentOf, isCommitted, actions, isChildOf}
+use Rattle.rules.specs.Sound.{IsGiven}
 use Rattle.rules.specs.Tree.{children, committedChildren}
 use Rattle.rules.proofs.Laws.Tests.{and-left, implies}
 use Rattle.rules.proofs.Laws.Ranges.{all-of, filter-left-here, filter-left-next, filter-left-done}
@@ -36,30 +36,30 @@ all-filtered f g (x ∷ l) = by-first (g x) (all-filtered f g l)
 
 module _ (w : List ℕ) (p : ℕ) where
   -- f holds of p's committed children where it holds of every child of p
-  pub all-children : (f : ℕ → Bool) → ((m : ℕ) → IsStarted w m → parentOf w m ≡ p → f m ≡ true) → all f (committedChildren w p) ≡ true
+  pub all-children : (f : ℕ → Bool) → ((m : ℕ) → IsGiven w m → parentOf w m ≡ p → f m ≡ true) → all f (committedChildren w p) ≡ true
   unfolding committedChildren children actions
   all-children f holds =
       let is = isCommittedChildOf w p in
-      ap (all f) (sym (filter-twice (isChildOf w p) (isCommitted w) (upFrom 1 (started w))))
-      ∙ all-filtered f is (upFrom 1 (started w))
-      ∙ all-of _ 1 (started w)
+      ap (all f) (sym (filter-twice (isChildOf w p) (isCommitted w) (upFrom 1 (highest w))))
+      ∙ all-filtered f is (upFrom 1 (highest w))
+      ∙ all-of _ 1 (highest w)
       (λ m h. implies (is m) (f m) (λ child. holds m (omega arith) (eqb-true _ p (and-left (isChildOf w p m) _ child))))
 
   pub children-from-first : committedFrom w p 1 ≡ committedChildren w p
   unfolding committedFrom committedChildren children actions
   children-from-first =
-      let all : started w + 1 - 1 ≡ started w = omega arith in
-      ap (λ many. filter (isCommittedChildOf w p) (upFrom 1 many)) all ∙ filter-twice (isChildOf w p) (isCommitted w) (upFrom 1 (started w))
+      let all : highest w + 1 - 1 ≡ highest w = omega arith in
+      ap (λ many. filter (isCommittedChildOf w p) (upFrom 1 many)) all ∙ filter-twice (isChildOf w p) (isCommitted w) (upFrom 1 (highest w))
 
   module _ (i : ℕ) where
-    pub children-done : started w < i → committedFrom w p i ≡ []
+    pub children-done : highest w < i → committedFrom w p i ≡ []
     unfolding committedFrom
-    children-done over = filter-left-done (isCommittedChildOf w p) i (started w + 1) (omega arith)
+    children-done over = filter-left-done (isCommittedChildOf w p) i (highest w + 1) (omega arith)
 
-    pub children-here : i ≤ started w → isCommittedChildOf w p i ≡ true → committedFrom w p i ≡ i ∷ committedFrom w p (i + 1)
+    pub children-here : i ≤ highest w → isCommittedChildOf w p i ≡ true → committedFrom w p i ≡ i ∷ committedFrom w p (i + 1)
     unfolding committedFrom
-    children-here within is = filter-left-here (isCommittedChildOf w p) i (started w + 1) (omega arith) is
+    children-here within is = filter-left-here (isCommittedChildOf w p) i (highest w + 1) (omega arith) is
 
-    pub children-next : i ≤ started w → isCommittedChildOf w p i ≡ false → committedFrom w p i ≡ committedFrom w p (i + 1)
+    pub children-next : i ≤ highest w → isCommittedChildOf w p i ≡ false → committedFrom w p i ≡ committedFrom w p (i + 1)
     unfolding committedFrom
-    children-next within isnt = filter-left-next (isCommittedChildOf w p) i (started w + 1) (omega arith) isnt
+    children-next within isnt = filter-left-next (isCommittedChildOf w p) i (highest w + 1) (omega arith) isnt

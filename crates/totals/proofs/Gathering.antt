@@ -8,7 +8,7 @@ use mathlib.Core.List.{List}
 use lib.IntN.{ℤ, _+ℤ_, +ℤ-comm}
 use Rattle.rules.specs.Range.{all}
 use Rattle.rules.specs.Amount.{amountOf, amountWord, isAmount}
-use Rattle.rules.specs.Table.{mostActions, started, ownAdds, ownAddsWord}
+use Rattle.rules.specs.Table.{mostActions, highest, ownAdds, ownAddsWord}
 use Rattle.rules.specs.Tree.{committedChildren, addedUp, totalWithin, topSum, totalOf}
 use Rattle.rules.proofs.Laws.Tests.{and-left, and-right}
 use Rattle.rules.proofs.Laws.Amounts.{amount-zero, amount-of-any, amount-read-back}
@@ -42,11 +42,11 @@ pub fitting-word :
     amountOf (totalFigure levels w k n .word) ≡ totalWithin levels w k n
 fitting-word levels w k n fits = rw fits (amount-read-back (totalWithin levels w k n) (fitting-is-amount levels w k n fits))
 
-module _ (levels : ℕ) (w : List ℕ) (few : started w ≤ mostActions) (k n i : ℕ) where
+module _ (levels : ℕ) (w : List ℕ) (few : highest w ≤ mostActions) (k n i : ℕ) where
   -- ---- the children from i on
 
   -- behind the last one there is nothing
-  pub gathered-none : IsNext w i → started w < i → IsGathered levels w k n i (record { fits = true; sum = sumOf 0 })
+  pub gathered-none : IsNext w i → highest w < i → IsGathered levels w k n i (record { fits = true; sum = sumOf 0 })
   unfolding all addedUp sumOf
   gathered-none next over =
       record {
@@ -56,7 +56,7 @@ module _ (levels : ℕ) (w : List ℕ) (few : started w ≤ mostActions) (k n i 
         fewNegatives = omega arith;
       }
 
-  module _ (within : i ≤ started w) (rest : Gathered) (gathered : IsGathered levels w k n (i + 1) rest) where
+  module _ (within : i ≤ highest w) (rest : Gathered) (gathered : IsGathered levels w k n (i + 1) rest) where
     pub room-for-child : HasRoom (rest .sum)
     room-for-child = omega (arith, gathered)
 

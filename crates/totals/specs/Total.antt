@@ -5,7 +5,7 @@ use mathlib.Core.Bool.{Bool, true, _&&_}
 use mathlib.Core.List.{List}
 use Rattle.rules.specs.Range.{upFrom, all, filter}
 use Rattle.rules.specs.Amount.{isAmount}
-use Rattle.rules.specs.Table.{mostActions, started, isCommitted, isChildOf}
+use Rattle.rules.specs.Table.{mostActions, highest, isCommitted, isChildOf}
 use Rattle.rules.specs.Tree.{committedChildren, addedUp, totalWithin, topSum}
 use Rattle.amounts.specs.Sum.{valueOf, plusWord}
 use Rattle.totals.specs.declared.figure.Figure.{Figure}
@@ -18,11 +18,11 @@ isCommittedChildOf w p m = isChildOf w p m && isCommitted w m
 
 -- i is the number of an action, or the one behind the last
 abbrev pub IsNext : List ℕ → ℕ → Type 0
-IsNext w i = (1 ≤ i) × (i ≤ started w + 1)
+IsNext w i = (1 ≤ i) × (i ≤ highest w + 1)
 
 -- p's committed children from i on; from 1 on they are all of them (proofs/Children.antt)
 unfoldable pub committedFrom : List ℕ → ℕ → ℕ → List ℕ
-committedFrom w p i = filter (isCommittedChildOf w p) (upFrom i (started w + 1 - i))
+committedFrom w p i = filter (isCommittedChildOf w p) (upFrom i (highest w + 1 - i))
 
 -- n's total for charge account k from so many levels is an amount, and so are those that it is made of
 unfoldable pub fitsWithin : ℕ → List ℕ → ℕ → ℕ → Bool

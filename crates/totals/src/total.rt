@@ -9,8 +9,8 @@ use crate::figure::figure_of;
 use amounts::sum::Sum;
 use amounts::sum::of_word;
 use amounts::sum::plus;
+use rows::fields::highest;
 use rows::fields::is_committed;
-use rows::fields::last_start;
 use rows::fields::own_adds;
 use rows::fields::parent;
 use rules::report::MOST_LEVELS;
@@ -73,7 +73,7 @@ fn total_list(table: &[u64], n: u64, i: u64, k: u64, levels: u64) -> Gathered
     requires { ⌜ IsCharge k ⌝ }
     ensures { λ r. ⌜ IsGathered levels (now (table .entry)) k n i r ⌝ }
 {
-    if last_start(table) < i {
+    if highest(table) < i {
         return Gathered {
             fits: true,
             sum: of_word(NO_SUM),

@@ -1,4 +1,4 @@
--- The search for the first clash as its loops go: the records of a parent from the last start down, and the accounts of one
+-- The search for the first clash as its loops go: the records of a parent from the highest number down, and the accounts of one
 -- record from the first on; and where it may begin. Assumes nothing.
 use Prim.Native.Nat.{ℕ, zero, suc, _+_, _-_, _≤_, _<_}
 use native.Mathlib.Nat.{le-refl}
@@ -10,7 +10,7 @@ use mathlib.Core.Bool.{Bool, true, false, cond, _&&_}
 use mathlib.Core.List.{List, _∷_}
 use Rattle.rules.specs.Range.{upFrom, filter, fold}
 use Rattle.rules.specs.Card.{accountCount, accounts}
-use Rattle.rules.specs.Table.{started, counter, parentOf, endTime, hasRead, readTime, actions, isRecordOf, records}
+use Rattle.rules.specs.Table.{highest, counter, parentOf, endTime, hasRead, readTime, actions, isRecordOf, records}
 use Rattle.rules.specs.declared.Found.{Found}
 use Rattle.rules.specs.declared.Found.the-variants.{At}
 use Rattle.rules.specs.Clash.{isClash}
@@ -27,20 +27,20 @@ use Rattle.validation.specs.NextRecord.{isNextRecord}
 
 -- the records of p from number a on
 unfoldable pub recordsFrom : List ℕ → ℕ → ℕ → List ℕ
-recordsFrom w p a = filter (isRecordOf w p) (upFrom a (started w + 1 - a))
+recordsFrom w p a = filter (isRecordOf w p) (upFrom a (highest w + 1 - a))
 
 module _ (w : List ℕ) (p t : ℕ) where
-  -- behind the last start there is none
-  pub scan-start : nextAfter w t (recordsFrom w p (started w + 1)) ≡ 0
+  -- above the highest number there is none
+  pub scan-start : nextAfter w t (recordsFrom w p (highest w + 1)) ≡ 0
   unfolding recordsFrom filter nextAfter
-  scan-start = rw (left-done (started w + 1) (started w + 1) (le-refl _))
+  scan-start = rw (left-done (highest w + 1) (highest w + 1) (le-refl _))
 
   -- action m before those from m + 1 on
   pub scan-next :
-      (m next : ℕ) → m ≤ started w → next ≡ nextAfter w t (recordsFrom w p (m + 1)) →
+      (m next : ℕ) → m ≤ highest w → next ≡ nextAfter w t (recordsFrom w p (m + 1)) →
       nextAfter w t (recordsFrom w p m) ≡ cond (isNextRecord w p t m next) m next
   unfolding recordsFrom filter nextAfter
-  scan-next m next h e = rw (left-next m (started w + 1) (omega arith), e) (taken (isRecordOf w p m))
+  scan-next m next h e = rw (left-next m (highest w + 1) (omega arith), e) (taken (isRecordOf w p m))
     where
       rest : List ℕ
       rest = recordsFrom w p (m + 1)
@@ -54,7 +54,7 @@ module _ (w : List ℕ) (p t : ℕ) where
   -- from the first start on they are all
   pub scan-done : nextAfter w t (recordsFrom w p 1) ≡ nextAfter w t (records w p)
   unfolding recordsFrom records actions
-  scan-done = let e : started w + 1 - 1 ≡ started w = omega arith in rw e
+  scan-done = let e : highest w + 1 - 1 ≡ highest w = omega arith in rw e
 
 -- it is a child of p, where there is one
 pub next-child : (w : List ℕ) (p t m : ℕ) → m ≡ nextAfter w t (records w p) → m ≢ 0 → parentOf w m ≡ p

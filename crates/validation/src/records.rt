@@ -5,7 +5,7 @@ ghost use Rattle.rules.specs.Search.{isSooner, nextAfter};
 ghost use Rattle.rows.specs.Row.{HasRow, Scannable};
 ghost use Rattle.rows.specs.Times.{numberIn, IsOfKindOf};
 ghost use Rattle.validation.specs.NextRecord.{isNextRecord, IsTimeUnder, IsChildOrNone, IsAlikeOrNone};
-use rows::fields::last_start;
+use rows::fields::highest;
 use rows::fields::parent;
 use rows::sets::has_ended;
 use rows::times::Time;
@@ -55,7 +55,7 @@ pub(crate) fn next_record(table: &[u64], p: u64, t: Time) -> u64
     requires { ⌜ IsTimeUnder t p ⌝ }
     ensures { λ r. ⌜ r ≡ nextAfter (now (table .entry)) (numberIn t) (records (now (table .entry)) p) ⌝ }
 {
-    let mut m = last_start(table);
+    let mut m = highest(table);
     let mut next = NO_RECORD;
     while m != 0 {
         if is_next_record(table, p, t, m, next) {

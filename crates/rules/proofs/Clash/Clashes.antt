@@ -11,8 +11,8 @@ use borrow.Author.Tests.{ltb-true, ltb-false, le-ltb, leb-true, leb-false, eqb-t
 use Rattle.rules.specs.declared.Answer.the-variants.{Committed, Failed}
 use Rattle.rules.specs.Range.{filter}
 use Rattle.rules.specs.Card.{accountCount, accounts}
-use Rattle.rules.specs.Table.{started, parentOf, kindOf, endTime, hasRead, readTime, hasWritten, actions, isRecordOf, records}
-use Rattle.rules.specs.Sound.{IsStarted}
+use Rattle.rules.specs.Table.{highest, parentOf, kindOf, endTime, hasRead, readTime, hasWritten, actions, isRecordOf, records}
+use Rattle.rules.specs.Sound.{IsGiven}
 use Rattle.rules.specs.declared.Found.{Found}
 use Rattle.rules.specs.declared.Found.the-variants.{Nothing, At}
 use Rattle.rules.specs.Clash.{isClash, Pair, pairsWith, clashesWith, clashes, isBefore, earlier, least, firstClash}
@@ -27,11 +27,11 @@ use Rattle.rules.proofs.Laws.Ranges.{filter-only, filter-every}
 
 -- ---- what is in the list
 
-pub in-records : (w : List ℕ) (p m : ℕ) → List·Memᴰ m (records w p) ↔ (IsStarted w m × (isRecordOf w p m ≡ true))
+pub in-records : (w : List ℕ) (p m : ℕ) → List·Memᴰ m (records w p) ↔ (IsGiven w m × (isRecordOf w p m ≡ true))
 unfolding records actions
 in-records w p m = (
-  λ r. let h = filter-only (isRecordOf w p) 1 (started w) m r in (omega arith, h .1),
-  λ h. filter-every (isRecordOf w p) 1 (started w) m (omega arith) (h .1),
+  λ r. let h = filter-only (isRecordOf w p) 1 (highest w) m r in (omega arith, h .1),
+  λ h. filter-every (isRecordOf w p) 1 (highest w) m (omega arith) (h .1),
 )
 
 pairsWith-only :
@@ -75,7 +75,7 @@ module _ (w : List ℕ) (n : ℕ) where
 
 -- RULES 4.2: c belongs in n's clash list, as facts
 pub record IsClashing (w : List ℕ) (n : ℕ) (c : Pair) : Type 0 where
-  pub begun : IsStarted w (c .holder)
+  pub begun : IsGiven w (c .holder)
   pub isRecord : isRecordOf w (parentOf w n) (c .holder) ≡ true
   pub known : c .account < accountCount
   pub clash : isClash w n (c .holder) (c .account) ≡ true

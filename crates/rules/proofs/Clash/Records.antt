@@ -10,8 +10,8 @@ use lib.Dec.{ltb}
 use borrow.Author.Tests.{ltb-true, ltb-false, lt-ltb, le-ltb, eqb-true, eq-eqb, ne-eqb}
 use Rattle.rules.specs.Range.{count}
 use Rattle.rules.specs.Kind.{kindUnder}
-use Rattle.rules.specs.Table.{hasEnd, started, counter, parentOf, endTime, actions, isChildOf, isRecordOf, records}
-use Rattle.rules.specs.Sound.{IsStarted, Sound}
+use Rattle.rules.specs.Table.{hasEnd, highest, counter, parentOf, endTime, actions, isChildOf, isRecordOf, records}
+use Rattle.rules.specs.Sound.{IsGiven, Sound}
 use Rattle.rules.specs.Search.{nextAfter}
 use Rattle.rules.proofs.Laws.Tests.{and-left, and-right, and-both, and-false, test}
 use Rattle.rules.proofs.Laws.Ranges.{any-at, count-at-most, count-some, count-fewer}
@@ -118,10 +118,10 @@ pub positive : (w : List ℕ) (p x : ℕ) → List·Memᴰ x (records w p) → 1
 positive w p x r = in-records w p x .0 r .0 .0
 
 -- in a sound table the next record is a started action, and ends above t and within the counter of its kind
-pub next-started :
+pub next-given :
     {w : List ℕ} → Sound w → (p t m : ℕ) → m ≡ nextAfter w t (records w p) → m ≢ 0 →
-    IsStarted w m × (t < endTime w m) × (endTime w m ≤ counter w (kindUnder p))
-next-started {w} s p t m e ne =
+    IsGiven w m × (t < endTime w m) × (endTime w m ≤ counter w (kindUnder p))
+next-given {w} s p t m e ne =
     ⊎-elim
     (λ empty. absurd (ne (e ∙ empty .0)))
     (λ is.
@@ -141,9 +141,9 @@ pub later : List ℕ → ℕ → ℕ → ℕ
 later w p t = count (isLater w p t) (actions w)
 
 module _ (w : List ℕ) (p : ℕ) where
-  pub later-at-most : (t : ℕ) → later w p t ≤ started w
+  pub later-at-most : (t : ℕ) → later w p t ≤ highest w
   unfolding later actions
-  later-at-most t = count-at-most (isLater w p t) 1 (started w)
+  later-at-most t = count-at-most (isLater w p t) 1 (highest w)
 
   record-later : (t m : ℕ) → List·Memᴰ m (records w p) → t < endTime w m → isLater w p t m ≡ true
   record-later t m r above = and-both (in-records w p m .0 r .1) (lt-ltb _ _ above)
@@ -152,14 +152,14 @@ module _ (w : List ℕ) (p : ℕ) where
   unfolding later actions
   none-later t m none r above =
       let begun = in-records w p m .0 r .0 in
-      omega (arith, count-some (isLater w p t) _ (any-at (isLater w p t) 1 (started w) m (omega arith) (record-later t m r above)))
+      omega (arith, count-some (isLater w p t) _ (any-at (isLater w p t) 1 (highest w) m (omega arith) (record-later t m r above)))
 
   -- behind a record that ends above t there is one fewer, at least
   pub fewer-later : (t m : ℕ) → List·Memᴰ m (records w p) → t < endTime w m → later w p (endTime w m) < later w p t
   unfolding later actions
   fewer-later t m r above =
       let begun = in-records w p m .0 r .0 in
-      count-fewer (isLater w p t) (isLater w p (endTime w m)) 1 (started w) m (omega arith)
+      count-fewer (isLater w p t) (isLater w p (endTime w m)) 1 (highest w) m (omega arith)
       (record-later t m r above)
       (rw (le-ltb (endTime w m) (endTime w m) (le-refl _)) (and-false (isRecordOf w p m)))
       (λ y _ q.

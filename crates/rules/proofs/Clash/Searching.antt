@@ -11,8 +11,8 @@ use lib.Dec.{ltb, eqb}
 use borrow.Author.Tests.{ltb-true, eq-eqb, ne-eqb}
 use Rattle.rules.specs.Range.{upFrom}
 use Rattle.rules.specs.Card.{accountCount, accounts}
-use Rattle.rules.specs.Table.{mostActions, started, parentOf, kindOf, endTime, hasRead, readTime, hasWritten, isRecordOf, records}
-use Rattle.rules.specs.Sound.{IsStarted, Sound}
+use Rattle.rules.specs.Table.{mostActions, highest, parentOf, kindOf, endTime, hasRead, readTime, hasWritten, isRecordOf, records}
+use Rattle.rules.specs.Sound.{IsGiven, Sound}
 use Rattle.rules.specs.declared.Found.{Found}
 use Rattle.rules.specs.declared.Found.the-variants.{Nothing}
 use Rattle.rules.specs.Clash.{isClash, Pair, firstClash}
@@ -79,7 +79,7 @@ clash-record w n c h = in-records w (parentOf w n) (c .holder) .1 (h .begun, h .
 
 -- what the search asks of the table: no more actions than rounds, and of n's parent one record to an end time
 pub record Searchable (w : List ℕ) (n : ℕ) : Type 0 where
-  few : started w ≤ mostActions
+  few : highest w ≤ mostActions
   apart : RecordsApart w (parentOf w n)
 
 pub sound-searchable : {w : List ℕ} → Sound w → (n : ℕ) → Searchable w n
@@ -92,7 +92,7 @@ module _ (w : List ℕ) (n : ℕ) (s : Searchable w n) where
       (ClashWith w n m 0 accountCount c ⊎ ClashAfter w n (endTime w m) c) ↔ ClashAfter w n t c
   after-next t m is c = (⊎-elim with-next after, λ h. split h (ℕ-discrete (endTime w (c .holder)) (endTime w m)))
     where
-      next : IsStarted w m × (isRecordOf w (parentOf w n) m ≡ true)
+      next : IsGiven w m × (isRecordOf w (parentOf w n) m ≡ true)
       next = in-records w (parentOf w n) m .0 (is .member)
 
       with-next : ClashWith w n m 0 accountCount c → ClashAfter w n t c

@@ -12,7 +12,7 @@ use borrow.Author.Tests.{eqb-true, eqb-false, eq-eqb, ne-eqb, leb-true}
 use Rattle.rules.specs.Card.{accountCount, firstCharge, isCharge, IsCard, basePlace, shadowPlace, cardAt, withCard, StoresFit}
 use Rattle.rules.specs.Amount.{amountLength, amountWord, withAmount, baseAmount}
 use Rattle.rules.specs.Table.{mostActions, IsAction, width, tableLength, word, parentOf, hasWritten, hasCard, pendingField, pendingWord, withPending, pendingSum}
-use Rattle.rules.specs.Sound.{IsStarted, Sound}
+use Rattle.rules.specs.Sound.{IsGiven, Sound}
 use Rattle.rules.specs.Ledger.{Ledger, ledgerOf, withTable}
 use Rattle.rules.specs.Held.{heldCard, heldSum, withBaseCard, withHeldCard, withHeldSum}
 use Rattle.rules.specs.Commit.{copyOne}
@@ -132,7 +132,7 @@ pub record CanCopy (s : Ledger) (n p : ℕ) : Type 0 where
 
 -- any action of a sound table can copy to its parent
 pub sound-can-copy :
-    {s : Ledger} → Sound (s .table) → StoresFit (s .base) (s .shadow) → (n : ℕ) → IsStarted (s .table) n →
+    {s : Ledger} → Sound (s .table) → StoresFit (s .base) (s .shadow) → (n : ℕ) → IsGiven (s .table) n →
     CanCopy s n (parentOf (s .table) n)
 sound-can-copy sound fits n begun =
     let lower = sound .below n begun in

@@ -7,9 +7,9 @@ use mathlib.Core.List.{List}
 use lib.Dec.{leb, ltb, eqb}
 use Rattle.rules.specs.Card.{accountCount, isCharge, basePlace, shadowPlace, cardAt}
 use Rattle.rules.specs.Kind.{kindUnder}
-use Rattle.rules.specs.Table.{mostActions, started, parentOf, endTime, hasRead, readTime, hasWritten, pendingSum, isLive, isRecordOf}
+use Rattle.rules.specs.Table.{mostActions, highest, parentOf, endTime, hasRead, readTime, hasWritten, pendingSum, isLive, isRecordOf}
 use Rattle.rules.specs.Walk.{walkUp}
-use Rattle.rules.specs.Sound.{IsStarted}
+use Rattle.rules.specs.Sound.{IsGiven}
 use Rattle.rules.specs.Ledger.{Ledger}
 use Rattle.rules.specs.Serial.Effect.{Effect, nothing, puts, adds}
 use Rattle.rules.proofs.Serial.Values.{AccountValue, over, accountValues}
@@ -18,7 +18,7 @@ use Rattle.rules.proofs.Serial.Shown.{shownBase}
 
 -- X is the number of a started action that is live
 unfoldable pub isAlive : List ℕ → ℕ → Bool
-isAlive w X = leb 1 X && leb X (started w) && isLive w X
+isAlive w X = leb 1 X && leb X (highest w) && isLive w X
 
 -- the card of an action, or of the store, for an account
 unfoldable pub cardOf : Ledger → ℕ → ℕ → List ℕ
@@ -53,7 +53,7 @@ abstraction s =
 -- since X read k, a child of Q has committed with k in its write set: by the read's time of the kind of Q's children
 pub record Stale (s : Ledger) (X Q k : ℕ) : Type 0 where
   pub holder : ℕ
-  pub begun : IsStarted (s .table) holder
+  pub begun : IsGiven (s .table) holder
   pub isRecord : isRecordOf (s .table) Q holder ≡ true
   pub written : hasWritten (s .table) holder k ≡ true
   pub later : readTime (s .table) (kindUnder Q) X k < endTime (s .table) holder

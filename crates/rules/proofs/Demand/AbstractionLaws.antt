@@ -12,8 +12,8 @@ use lib.IntN.{ℤ, pos, _+ℤ_, +ℤ-idl}
 use borrow.Author.Tests.{ltb-true, leb-true, leb-false, not-true, lt-ltb, le-ltb, le-leb}
 use Rattle.rules.specs.Card.{accountCount, firstCharge, isCharge, IsCharge, basePlace, shadowPlace, cardAt}
 use Rattle.rules.specs.Amount.{amountOf}
-use Rattle.rules.specs.Table.{newTable, mostActions, word, started, parentOf, hasRead, hasWritten, hasCard, pendingSum, isLive}
-use Rattle.rules.specs.Sound.{IsStarted}
+use Rattle.rules.specs.Table.{newTable, mostActions, word, highest, parentOf, hasRead, hasWritten, hasCard, pendingSum, isLive}
+use Rattle.rules.specs.Sound.{IsGiven}
 use Rattle.rules.specs.Ledger.{Ledger}
 use Rattle.rules.specs.Serial.Effect.{nothing, puts, adds, lay}
 use Rattle.rules.proofs.Laws.Tests.{test, and-left, and-right, and-both, and-holds, cond-holds}
@@ -30,24 +30,24 @@ use Rattle.rules.proofs.Demand.Abstraction.{isAlive, writtenEffect, eff
 -- ---- who is live, and who has read what
 
 module _ (w : List ℕ) (X : ℕ) where
-  pub alive-started : isAlive w X ≡ true → IsStarted w X
+  pub alive-given : isAlive w X ≡ true → IsGiven w X
   unfolding isAlive
-  alive-started h =
-      let numbered = and-left (leb 1 X && leb X (started w)) (isLive w X) h in
-      (leb-true 1 X (and-left (leb 1 X) _ numbered), leb-true X (started w) (and-right (leb 1 X) _ numbered))
+  alive-given h =
+      let numbered = and-left (leb 1 X && leb X (highest w)) (isLive w X) h in
+      (leb-true 1 X (and-left (leb 1 X) _ numbered), leb-true X (highest w) (and-right (leb 1 X) _ numbered))
 
   pub alive-live : isAlive w X ≡ true → isLive w X ≡ true
   unfolding isAlive
-  alive-live = and-right (leb 1 X && leb X (started w)) (isLive w X)
+  alive-live = and-right (leb 1 X && leb X (highest w)) (isLive w X)
 
-  pub live-alive : IsStarted w X → isLive w X ≡ true → isAlive w X ≡ true
+  pub live-alive : IsGiven w X → isLive w X ≡ true → isAlive w X ≡ true
   unfolding isAlive
-  live-alive begun = and-both (and-both (le-leb 1 X (begun .0)) (le-leb X (started w) (begun .1)))
+  live-alive begun = and-both (and-both (le-leb 1 X (begun .0)) (le-leb X (highest w) (begun .1)))
 
 -- nobody has started in a new table
 pub new-nobody-alive : (X : ℕ) → isAlive newTable X ≡ true → ⊥
 unfolding newTable word
-new-nobody-alive X l = omega (arith, alive-started newTable X l)
+new-nobody-alive X l = omega (arith, alive-given newTable X l)
 
 module _ (w : List ℕ) (X k : ℕ) where
   pub read-account : hasReadAccount w X k ≡ true → k < accountCount
@@ -115,7 +115,7 @@ module _ (s : Ledger) (X k : ℕ) where
       cond-holds (λ f. hides f ≡ false) (ltb k accountCount && hasWritten (s .table) X k) (λ _. rw charge) (λ _. refl)
 
 -- a charge account that isn't in the write set has no sum
-module _ (s : Ledger) (proper : Proper s) (X k : ℕ) (begun : IsStarted (s .table) X) (charge : IsCharge k) where
+module _ (s : Ledger) (proper : Proper s) (X k : ℕ) (begun : IsGiven (s .table) X) (charge : IsCharge k) where
   pub no-sum : hasWritten (s .table) X k ≡ false → pendingSum (s .table) X k ≡ pos 0
   no-sum unwritten = ap amountOf (proper .sound .pendings X k begun charge unwritten) ∙ amount-zero
 
@@ -164,8 +164,8 @@ module _ (s : Ledger) (proper : Proper s) where
       parent : ℕ
       parent = parentOf (s .table) X
 
-      begun : IsStarted (s .table) X
-      begun = alive-started (s .table) X l
+      begun : IsGiven (s .table) X
+      begun = alive-given (s .table) X l
 
       cases :
           Dec (parent ≡ 0) → (parent ≡ 0) ⊎ (isLive (s .table) parent ≡ true) →
@@ -174,10 +174,10 @@ module _ (s : Ledger) (proper : Proper s) where
       cases (no action) (inl store) = inl store
       cases (no action) (inr live) = inr (live-alive (s .table) parent (omega arith, parent-known (proper .sound) X begun) live)
 
-  action-climbs : (X : ℕ) → IsStarted (s .table) X → (X ≢ 0) × Climbs (s .table) X
+  action-climbs : (X : ℕ) → IsGiven (s .table) X → (X ≢ 0) × Climbs (s .table) X
   action-climbs X begun = (λ z. omega (arith, begun), sound-climbs (proper .sound) X (begun .1))
 
-  deeper-than-parent : (X : ℕ) → IsStarted (s .table) X → movesToStore (s .table) (parentOf (s .table) X) < movesToStore (s .table) X
+  deeper-than-parent : (X : ℕ) → IsGiven (s .table) X → movesToStore (s .table) (parentOf (s .table) X) < movesToStore (s .table) X
   deeper-than-parent X begun =
       let (ne, up) = action-climbs X begun in rw (movesToStore-step (s .table) X ne up) (omega arith)
 
@@ -188,7 +188,7 @@ module _ (s : Ledger) (proper : Proper s) where
         store-not-live = store-not-alive (s .table);
         store-view = view-store s;
         parent-held = parent-alive;
-        live-view = λ X l k. let (ne, up) = action-climbs X (alive-started (s .table) X l) in view-step s X k ne up;
+        live-view = λ X l k. let (ne, up) = action-climbs X (alive-given (s .table) X l) in view-step s X k ne up;
         rank = movesToStore (s .table);
-        rank-falls = λ X l. deeper-than-parent X (alive-started (s .table) X l);
+        rank-falls = λ X l. deeper-than-parent X (alive-given (s .table) X l);
       }

@@ -8,8 +8,8 @@ use mathlib.Core.Logic.{_≢_}
 use mathlib.Core.Bool.{true, false}
 use Rattle.rules.specs.declared.Found.the-variants.{Nothing}
 use Rattle.rules.specs.Card.{isCharge}
-use Rattle.rules.specs.Table.{started, parentOf}
-use Rattle.rules.specs.Sound.{IsStarted}
+use Rattle.rules.specs.Table.{highest, parentOf}
+use Rattle.rules.specs.Sound.{IsGiven}
 use Rattle.rules.specs.Ledger.{Ledger}
 use Rattle.rules.specs.Cause.{isCommitOutside}
 use Rattle.rules.specs.Commit.{committedUnder}
@@ -85,7 +85,7 @@ module _
   -- a start: the new action's block is empty
   module _ (p : ℕ) (permitted : Startable (s .table) p) where
     abbrev new : ℕ
-    new = started (s .table) + 1
+    new = highest (s .table) + 1
 
     new-put : Put (abstraction (start s p .after)) (c .block) (put (c .block) new empty) new empty
     new-put =
@@ -120,7 +120,7 @@ module _
         }
 
   -- a step of the action n itself: its block grows by one, the store's stays
-  module _ (n : ℕ) (own : IsStarted (s .table) n) (d : Block Effect) where
+  module _ (n : ℕ) (own : IsGiven (s .table) n) (d : Block Effect) where
     own-put : (s′ : Ledger) → Put (abstraction s′) (c .block) (put (c .block) n d) n d
     own-put s′ =
         record {

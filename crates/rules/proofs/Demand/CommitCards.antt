@@ -9,7 +9,7 @@ use mathlib.Core.List.{List}
 use lib.ListN.{length}
 use Rattle.rules.specs.Card.{accountCount, basePlace, shadowPlace, cardAt}
 use Rattle.rules.specs.Table.{parentOf, writeField, hasWritten, hasCard, pendingField}
-use Rattle.rules.specs.Sound.{IsStarted}
+use Rattle.rules.specs.Sound.{IsGiven}
 use Rattle.rules.specs.Ledger.{Ledger}
 use Rattle.rules.specs.Commit.{copiedDown, committedUnder}
 use Rattle.rules.proofs.Laws.Tests.{test}
@@ -62,7 +62,7 @@ module _ {s : Ledger} (proper : Proper s) {n p : ℕ} (judged : Committable (s .
   commit-parent-card sub k account = copied-parent-card s n p (can-copy .apart) k account can-copy sub
 
   other-card :
-      (X k : ℕ) → IsStarted (s .table) X → X ≢ p → k < accountCount →
+      (X k : ℕ) → IsGiven (s .table) X → X ≢ p → k < accountCount →
       cardAt (committedUnder s n p .shadow) (shadowPlace X k) ≡ cardAt (s .shadow) (shadowPlace X k)
   unfolding committedUnder
   other-card X k begun other account =
@@ -71,7 +71,7 @@ module _ {s : Ledger} (proper : Proper s) {n p : ℕ} (judged : Committable (s .
   -- ---- what the commit leaves as it was
 
   pub commit-effect-kept :
-      (X k : ℕ) → IsStarted (s .table) X → X ≢ n → X ≢ p → effectOf (committedUnder s n p) X k ≡ effectOf s X k
+      (X k : ℕ) → IsGiven (s .table) X → X ≢ n → X ≢ p → effectOf (committedUnder s n p) X k ≡ effectOf s X k
   commit-effect-kept X k begun not-n not-p =
       effect-kept s (committedUnder s n p) X k
       (λ account. commit-keeps-row s n p (judged .own .0) X (writeField k) (omega arith) (begun .0) not-n (inl not-p))

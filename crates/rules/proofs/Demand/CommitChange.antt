@@ -19,7 +19,7 @@ use Rattle.rules.proofs.Serial.Change.{Change}
 use Rattle.rules.proofs.Serial.Events.{Commit}
 use Rattle.rules.proofs.Demand.Abstraction.{effectOf, abstraction}
 use Rattle.rules.proofs.Demand.Proper.{Proper}
-use Rattle.rules.proofs.Demand.AbstractionLaws.{alive-started, live-alive, read-account, account-read, card-hides, abstract-tree}
+use Rattle.rules.proofs.Demand.AbstractionLaws.{alive-given, live-alive, read-account, account-read, card-hides, abstract-tree}
 use Rattle.rules.proofs.Demand.Views.{was-alive, same-parent}
 use Rattle.rules.proofs.Demand.CommitTable.{table-change, still-alive-other, read-joined, read-kept}
 use Rattle.rules.proofs.Demand.CommitCards.{commit-base-length, commit-shadow-length, commit-base-same, commit-effect-kept}
@@ -50,10 +50,10 @@ module _
             account-read table′ X k (read-account (s .table) X k has)
             (read-kept proper judged under k X (x .before) (x .after) has .has);
         eff-kept = λ X k x other.
-            commit-effect-kept proper judged under X k (alive-started (s .table) X (x .before))
+            commit-effect-kept proper judged under X k (alive-given (s .table) X (x .before))
             (still-alive-other proper judged under X (x .after)) other;
         eff-laid = λ X k x e.
-            let action = alive-started (s .table) X (x .before) in
+            let action = alive-given (s .table) X (x .before) in
             rw e (commit-effect-laid proper judged under fits k (λ z. omega arith));
         base-kept = λ k sub. ap (λ base. shownBase base k) (commit-base-same proper judged under sub);
         base-laid = commit-base-laid proper judged under fits;

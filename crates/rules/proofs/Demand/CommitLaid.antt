@@ -10,7 +10,7 @@ use Rattle.rules.specs.declared.Found.the-variants.{Nothing}
 use Rattle.rules.specs.Card.{accountCount, firstCharge, IsCharge, basePlace, shadowPlace, cardAt}
 use Rattle.rules.specs.Amount.{amountOf, isAmount, amountIn, withAmount, baseAmount}
 use Rattle.rules.specs.Table.{parentOf, writeEntry, entered, hasWritten, pendingWord, pendingSum}
-use Rattle.rules.specs.Sound.{IsStarted}
+use Rattle.rules.specs.Sound.{IsGiven}
 use Rattle.rules.specs.Ledger.{Ledger}
 use Rattle.rules.specs.Cause.{isCommitOutside}
 use Rattle.rules.specs.Commit.{committedUnder}
@@ -137,7 +137,7 @@ module _
 
     parent-sum-laid : IsCharge k → Written → LaidOnParent
     parent-sum-laid is written =
-        let begun : IsStarted (s .table) p = (omega arith, rw under at (parent-known (proper .sound) n (judged .own))) in
+        let begun : IsGiven (s .table) p = (omega arith, rw under at (parent-known (proper .sound) n (judged .own))) in
         rw (effect-sum s n k is written)
         (effect-sum (committedUnder s n p) p k is (rw (parent-entry (is .1), written))
         ∙ ap adds (ap amountOf (parent-pending is ∙ rw written) ∙ amount-read-back _ (parent-sum-fits is written))

@@ -11,7 +11,7 @@ use borrow.Author.Tests.{eq-eqb}
 use Rattle.rules.specs.Card.{accountCount, accounts}
 use Rattle.rules.specs.Kind.{kindUnder}
 use Rattle.rules.specs.Table.{width, word, counter, parentOf, endTime, readFields, writeField, hasWritten, hasWrites, hasCard, isCommitted, isRecordOf}
-use Rattle.rules.specs.Sound.{IsStarted}
+use Rattle.rules.specs.Sound.{IsGiven}
 use Rattle.rules.specs.Ledger.{Ledger}
 use Rattle.rules.specs.Commit.{commitTime, committedUnder}
 use Rattle.rules.specs.Serial.Effect.{nothing}
@@ -28,7 +28,7 @@ use Rattle.rules.proofs.Serial.Change.{Stays}
 use Rattle.rules.proofs.Serial.Stale.{AtCommit}
 use Rattle.rules.proofs.Demand.Abstraction.{effectOf, abstraction, Stale}
 use Rattle.rules.proofs.Demand.Proper.{Proper}
-use Rattle.rules.proofs.Demand.AbstractionLaws.{alive-started, alive-live, read-account, read-entered, effect-unwritten, effect-no-account, card-hides}
+use Rattle.rules.proofs.Demand.AbstractionLaws.{alive-given, alive-live, read-account, read-entered, effect-unwritten, effect-no-account, card-hides}
 use Rattle.rules.proofs.Demand.Views.{RowKept, RecordsKept, stale-stays}
 use Rattle.rules.proofs.Demand.CommitTable.{ReadsOn, table-change, number-few, parent-other, now-committed, read-joined, read-kept}
 use Rattle.rules.proofs.Demand.CommitCards.{by-write-set}
@@ -44,7 +44,7 @@ module _ {s : Ledger} (proper : Proper s) {n p : ℕ} (judged : Committable (s .
   -- ---- a read that was stale
 
   -- a committed action isn't the one that commits, nor its parent, which is the store or live
-  pub committed-row-kept : (m : ℕ) → IsStarted (s .table) m → isCommitted (s .table) m ≡ true → RowKept (s .table) table′ m
+  pub committed-row-kept : (m : ℕ) → IsGiven (s .table) m → isCommitted (s .table) m ≡ true → RowKept (s .table) table′ m
   committed-row-kept m begun done g h =
       commit-keeps-row s n p (judged .own .0) m g (action-width g h) (begun .0) not-committing (inl not-parent)
     where
@@ -59,7 +59,7 @@ module _ {s : Ledger} (proper : Proper s) {n p : ℕ} (judged : Committable (s .
           (proper .sound .alive n (judged .own) (judged .alive))
 
   records-kept : RecordsKept (s .table) table′
-  records-kept = record { noFewer = le-of-eq (sym (table-change proper judged under .sameStarted)); rows = committed-row-kept }
+  records-kept = record { noFewer = le-of-eq (sym (table-change proper judged under .sameHighest)); rows = committed-row-kept }
 
   stale-kept : {X Y Q k : ℕ} → k < accountCount → ReadsOn (s .table) X table′ Y k → Stale s X Q k → Stale after Y Q k
   stale-kept account on = stale-stays s after account records-kept (on .times)
@@ -90,14 +90,14 @@ module _ {s : Ledger} (proper : Proper s) {n p : ℕ} (judged : Committable (s .
 
     now-stale : (X : ℕ) → Stays (abstraction s) (abstraction after) X → HasRead (abstraction s) X k → Stale after X p k
     now-stale X x has =
-        let begun = alive-started (s .table) X (x .before) in
+        let begun = alive-given (s .table) X (x .before) in
         let live = alive-live (s .table) X (x .before) in
         let in-time =
         proper .sound .reads (kindUnder p) X k (kind-known p) begun live account (read-entered (s .table) X k has) in
         let on = read-kept proper judged under k X (x .before) (x .after) has .times (kindUnder p) in
         record {
           holder = n;
-          begun = rw (table-change proper judged under .sameStarted) (judged .own);
+          begun = rw (table-change proper judged under .sameHighest) (judged .own);
           isRecord = now-record;
           written = rw (own-set-kept (writeField k) (omega arith) (omega arith)) written;
           later = rw now-ended (omega (arith, in-time, on));

@@ -20,7 +20,7 @@ use Rattle.rules.proofs.Sound.Committing.{commit-keeps-row, commit-stat
 use Rattle.rules.proofs.Sound.Judging.{commit-change}
 use Rattle.rules.proofs.Demand.Abstraction.{isAlive, hasReadAccount}
 use Rattle.rules.proofs.Demand.Proper.{Proper}
-use Rattle.rules.proofs.Demand.AbstractionLaws.{alive-started, alive-live, read-account, read-entered}
+use Rattle.rules.proofs.Demand.AbstractionLaws.{alive-given, alive-live, read-account, read-entered}
 use Rattle.rules.proofs.Demand.Views.{NoLater, same-no-later}
 
 -- ---- joined reads
@@ -99,7 +99,7 @@ module _ {s : Ledger} (proper : Proper s) {n p : ℕ} (judged : Committable (s .
         isAlive (committedUnder s n p .table) p ≡ true → hasReadAccount (s .table) n k ≡ true → hasCard (s .table) p k ≡ false →
         ReadsOn (s .table) n (committedUnder s n p .table) p k
     read-joined l′ has bare =
-        let action = alive-started _ p l′ .0 in
+        let action = alive-given _ p l′ .0 in
         let account = read-account (s .table) n k has in
         let passes : passesRead (s .table) n p k ≡ true = and-both (read-entered (s .table) n k has) (ap not bare) in
         record {
@@ -122,7 +122,7 @@ module _ {s : Ledger} (proper : Proper s) {n p : ℕ} (judged : Committable (s .
     read-kept X l l′ has = cases (ℕ-discrete X p)
       where
         action : 1 ≤ X
-        action = alive-started (s .table) X l .0
+        action = alive-given (s .table) X l .0
 
         account : k < accountCount
         account = read-account (s .table) X k has

@@ -23,7 +23,7 @@ use Rattle.rules.proofs.Serial.Events.{Drop}
 use Rattle.rules.proofs.Serial.Stale.{Old}
 use Rattle.rules.proofs.Demand.Abstraction.{abstraction, Stale}
 use Rattle.rules.proofs.Demand.Proper.{Proper}
-use Rattle.rules.proofs.Demand.AbstractionLaws.{alive-started}
+use Rattle.rules.proofs.Demand.AbstractionLaws.{alive-given}
 use Rattle.rules.proofs.Demand.Views.{RowKept, RecordsKept, Keeps, keeps-still, keeps-old, was-alive, change-keeps-proper}
 
 -- ---- a change of states alone, and of no committed action's
@@ -64,7 +64,7 @@ module _ (s : Ledger) (proper : Proper s) (n : ℕ) (spared : Spared (s .table) 
   abort-records : RecordsKept (s .table) (abortTable (s .table) n)
   abort-records =
       record {
-        noFewer = le-of-eq (sym (change .sameStarted));
+        noFewer = le-of-eq (sym (change .sameHighest));
         rows = λ m _ done g inside.
             abort-keeps-row (s .table) n m g (action-width g inside)
             (λ h reached. live-uncommitted (s .table) m (and-left (isLive (s .table) m) _ reached) done);
@@ -94,18 +94,18 @@ module _
   queue-keeps : Keeps (s .table) queued
   queue-keeps =
       record {
-        parents = λ m l. queue-rows m (alive-started (s .table) m (l .0) .0) parentField (inl (omega arith));
-        writes = λ m k l account. queue-rows m (alive-started (s .table) m (l .0) .0) (writeField k) (inl (omega arith));
-        sums = λ m k l charge. queue-rows m (alive-started (s .table) m (l .0) .0) (pendingField k) (inl (omega arith));
+        parents = λ m l. queue-rows m (alive-given (s .table) m (l .0) .0) parentField (inl (omega arith));
+        writes = λ m k l account. queue-rows m (alive-given (s .table) m (l .0) .0) (writeField k) (inl (omega arith));
+        sums = λ m k l charge. queue-rows m (alive-given (s .table) m (l .0) .0) (pendingField k) (inl (omega arith));
         reads =
             λ m k l account has.
-            let row = queue-rows m (alive-started (s .table) m (l .0) .0) in
+            let row = queue-rows m (alive-given (s .table) m (l .0) .0) in
             (row (readField k) (inl (omega arith)), row (subTimeField k) (inr (omega arith, omega arith)));
       }
 
   queue-records : RecordsKept (s .table) queued
   queue-records =
-      record { noFewer = le-of-eq (sym (queue-changed .sameStarted)); rows = λ m begun done. queue-rows m (begun .0) }
+      record { noFewer = le-of-eq (sym (queue-changed .sameHighest)); rows = λ m begun done. queue-rows m (begun .0) }
 
   pub queue-drops : Drop (abstraction s) (abstraction (withTable s (withQueue (s .table) h es)))
   queue-drops = change-drops proper queue-changed queue-keeps
@@ -131,7 +131,7 @@ module _ (s : Ledger) (proper : Proper s) (n : ℕ) (j : Committable (s .table) 
   fail-records : RecordsKept (s .table) failed
   fail-records =
       record {
-        noFewer = le-of-eq (sym (change-failed .sameStarted));
+        noFewer = le-of-eq (sym (change-failed .sameHighest));
         rows = λ m _ done g inside.
             word-other-row (s .table) n m stateField g aborted (omega arith) (action-width g inside)
             (λ same. live-uncommitted (s .table) n (j .alive) (rw same at done));

@@ -10,7 +10,7 @@ use mathlib.Core.Bool.{true}
 use Rattle.rules.specs.Card.{accountCount}
 use Rattle.rules.specs.Table.{word, stateField, readField, readEntry, subTime, writeFields}
 use Rattle.rules.specs.Kind.{IsKind}
-use Rattle.rules.specs.Sound.{IsStarted}
+use Rattle.rules.specs.Sound.{IsGiven}
 use Rattle.rules.specs.Ledger.{Ledger}
 use Rattle.rules.specs.Serial.Effect.{Effect, lay}
 use Rattle.rules.proofs.Laws.Queue.{SameLine}
@@ -23,7 +23,7 @@ use Rattle.rules.proofs.Serial.Events.{Write}
 use Rattle.rules.proofs.Serial.Stale.{Old}
 use Rattle.rules.proofs.Demand.Abstraction.{isAlive, effectOf, hasReadAccount, abstraction, Stale}
 use Rattle.rules.proofs.Demand.Proper.{Proper}
-use Rattle.rules.proofs.Demand.AbstractionLaws.{alive-started, alive-live, live-alive, read-account, read-entered, account-read, abstract-tree}
+use Rattle.rules.proofs.Demand.AbstractionLaws.{alive-given, alive-live, live-alive, read-account, read-entered, account-read, abstract-tree}
 use Rattle.rules.proofs.Demand.Views.{was-alive, same-parent, same-no-later, RowKept, RecordsKept, stale-stays}
 
 -- from s to t, n enters account k with the effect f
@@ -38,7 +38,7 @@ pub record Entering (s t : Ledger) (n k : ℕ) (f : Effect) : Type 0 where
   pub sameLine : (h : ℕ) → IsKind h → SameLine (s .table) (t .table) h
   pub laid : effectOf t n k ≡ lay f (effectOf s n k)
   -- another action's effect, or on another account
-  pub elsewhere : (X j : ℕ) → IsStarted (s .table) X → (X ≢ n) ⊎ (j ≢ k) → effectOf t X j ≡ effectOf s X j
+  pub elsewhere : (X j : ℕ) → IsGiven (s .table) X → (X ≢ n) ⊎ (j ≢ k) → effectOf t X j ≡ effectOf s X j
 
 module _
     {s t : Ledger} (proper : Proper s) {n k : ℕ} (permitted : Touchable (s .table) n k) {f : Effect} (e : Entering s t n k f) where
@@ -70,14 +70,14 @@ module _
         tree′ = abstract-tree t (e .proper);
         parent-kept = λ X x. same-parent (e .change) X (x .before);
         reads-kept = λ X j x. read-kept X j;
-        eff-kept = λ X j x other. e .elsewhere X j (alive-started (s .table) X (x .before)) (inl other);
+        eff-kept = λ X j x other. e .elsewhere X j (alive-given (s .table) X (x .before)) (inl other);
         eff-laid = λ X j x same. rw same (effect-laid j);
         base-kept = λ j n≢0. rw (e .sameBase);
         base-laid = λ j n≡0. absurd (omega (arith, own));
       }
 
   writer-alive : isAlive (t .table) n ≡ true
-  writer-alive = live-alive (t .table) n (rw (e .change .sameStarted) own) (rw (e .fields n stateField (omega arith)) alive)
+  writer-alive = live-alive (t .table) n (rw (e .change .sameHighest) own) (rw (e .fields n stateField (omega arith)) alive)
 
   pub entering-writes : Write (abstraction s) (abstraction t) n k f
   entering-writes =
@@ -85,14 +85,14 @@ module _
         change = abstract-change;
         nobody-new = was-alive (e .change);
         writer-live = writer-alive;
-        childless = λ X l. no-live-child (s .table) n childless X (alive-started (s .table) X l) (alive-live (s .table) X l);
+        childless = λ X l. no-live-child (s .table) n childless X (alive-given (s .table) X l) (alive-live (s .table) X l);
       }
 
   -- a committed action isn't the one that enters
   records-kept : RecordsKept (s .table) (t .table)
   records-kept =
       record {
-        noFewer = le-of-eq (sym (e .change .sameStarted));
+        noFewer = le-of-eq (sym (e .change .sameHighest));
         rows = λ m begun done. e .rows m (λ same. live-uncommitted (s .table) n alive (rw same at done));
       }
 

@@ -8,8 +8,8 @@ use mathlib.Core.List.{List, []}
 use lib.IntN.{_+ℤ_}
 use Rattle.rules.specs.Card.{firstCharge, isCharge, IsCharge}
 use Rattle.rules.specs.Amount.{amountOf}
-use Rattle.rules.specs.Table.{mostActions, started, parentField, stateField, stateOf, pendingField, isLiveChildOf, hasLiveChild, actions}
-use Rattle.rules.specs.Sound.{IsStarted}
+use Rattle.rules.specs.Table.{mostActions, highest, parentField, stateField, stateOf, pendingField, isLiveChildOf, hasLiveChild, actions}
+use Rattle.rules.specs.Sound.{IsGiven}
 use Rattle.rules.specs.Event.{readBy}
 use Rattle.rules.specs.Answer.{said}
 use Rattle.rules.specs.Nearest.{readSum}
@@ -53,8 +53,8 @@ module _ (s : Ledger) (proper : Proper s) (n k : ℕ) (permitted : Touchable (s 
   proper-after : Proper (withTable s after)
   proper-after = change-keeps-proper proper change
 
-  own-after : IsStarted after n
-  own-after = rw (change .sameStarted) own
+  own-after : IsGiven after n
+  own-after = rw (change .sameHighest) own
 
   state-kept : (m : ℕ) → stateOf after m ≡ stateOf before m
   state-kept m = read-keeps-field before n k account m stateField (omega arith) (λ z. omega arith) (λ z. omega arith)
@@ -62,8 +62,8 @@ module _ (s : Ledger) (proper : Proper s) (n k : ℕ) (permitted : Touchable (s 
   childless-after : hasLiveChild after n ≡ false
   unfolding hasLiveChild actions
   childless-after =
-      rw (change .sameStarted)
-      (any-agree (isLiveChildOf after n) (isLiveChildOf before n) 1 (started before)
+      rw (change .sameHighest)
+      (any-agree (isLiveChildOf after n) (isLiveChildOf before n) 1 (highest before)
       (λ m h. rw (change .parents m (omega arith), state-kept m))
       ∙ childless)
 

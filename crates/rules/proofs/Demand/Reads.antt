@@ -25,7 +25,7 @@ use Rattle.rules.proofs.Serial.Events.{Noted, Read}
 use Rattle.rules.proofs.Serial.Stale.{Old}
 use Rattle.rules.proofs.Demand.Abstraction.{abstraction, Stale}
 use Rattle.rules.proofs.Demand.Proper.{Proper}
-use Rattle.rules.proofs.Demand.AbstractionLaws.{alive-started, live-alive, account-read, card-hides}
+use Rattle.rules.proofs.Demand.AbstractionLaws.{alive-given, live-alive, account-read, card-hides}
 use Rattle.rules.proofs.Demand.Views.{RecordsKept, Keeps, keeps-still, keeps-old, was-alive, change-keeps-proper}
 
 -- its answer tells of a read, whatever the account's kind
@@ -67,7 +67,7 @@ module _ (s : Ledger) (proper : Proper s) (n k : ℕ) (permitted : Touchable (s 
   read-keeps : Keeps before after
   read-keeps =
       record {
-        parents = λ m l. change .parents m (alive-started before m (l .0));
+        parents = λ m l. change .parents m (alive-given before m (l .0));
         writes = λ m j l inside. read-keeps-field before n k account m (writeField j) (omega arith) (λ z. omega arith) (λ z. omega arith);
         sums = λ m j l charge. read-keeps-field before n k account m (pendingField j) (omega arith) (λ z. omega arith) (λ z. omega arith);
         reads = λ m j l. words-kept m j;
@@ -77,7 +77,7 @@ module _ (s : Ledger) (proper : Proper s) (n k : ℕ) (permitted : Touchable (s 
   records-kept : RecordsKept before after
   records-kept =
       record {
-        noFewer = le-of-eq (sym (change .sameStarted));
+        noFewer = le-of-eq (sym (change .sameHighest));
         rows = λ m h done g inside.
             read-keeps-row before n k account m g (action-width g inside)
             (λ e. live-uncommitted before n alive (rw e at done));
@@ -105,7 +105,7 @@ module _ (s : Ledger) (proper : Proper s) (n k : ℕ) (permitted : Touchable (s 
         still = keeps-still s after read-keeps proper (change-keeps-proper proper change);
         nobody-new = was-alive change;
         reader-live =
-            live-alive after n (rw (change .sameStarted) own)
+            live-alive after n (rw (change .sameHighest) own)
             (rw (read-keeps-field before n k account n stateField (omega arith) (λ z. omega arith) (λ z. omega arith)) alive);
         noted = read-noted;
       }

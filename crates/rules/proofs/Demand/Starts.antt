@@ -7,19 +7,19 @@ use mathlib.Core.Bool.{true, not}
 use mathlib.Core.List.{List}
 use lib.Dec.{eqb}
 use borrow.Author.Tests.{eq-eqb}
-use Rattle.rules.specs.Table.{started, parentField, stateField, readField, subTimeField, writeField, pendingField}
-use Rattle.rules.specs.Sound.{IsStarted}
+use Rattle.rules.specs.Table.{highest, parentField, stateField, readField, subTimeField, writeField, pendingField}
+use Rattle.rules.specs.Sound.{IsGiven}
 use Rattle.rules.specs.Ledger.{Ledger, withTable}
 use Rattle.rules.specs.Step.{startTable, start}
 use Rattle.rules.specs.Serial.Effect.{nothing}
 use Rattle.rules.proofs.Laws.Permitted.{Startable}
 use Rattle.rules.proofs.Sound.QueueChanges.{action-width}
-use Rattle.rules.proofs.Sound.Starting.{start-keeps-row, start-started, start-state, start-write, start-keeps-sound}
+use Rattle.rules.proofs.Sound.Starting.{start-keeps-row, start-highest, start-state, start-write, start-keeps-sound}
 use Rattle.rules.proofs.Serial.Events.{Start}
 use Rattle.rules.proofs.Serial.Stale.{Old}
 use Rattle.rules.proofs.Demand.Abstraction.{isAlive, effectOf, abstraction, Stale}
 use Rattle.rules.proofs.Demand.Proper.{Proper}
-use Rattle.rules.proofs.Demand.AbstractionLaws.{alive-started, alive-live, live-alive, effect-unwritten, effect-no-account, by-account}
+use Rattle.rules.proofs.Demand.AbstractionLaws.{alive-given, alive-live, live-alive, effect-unwritten, effect-no-account, by-account}
 use Rattle.rules.proofs.Demand.Views.{RowKept, RecordsKept, Keeps, keeps-still, keeps-old}
 
 module _ (s : Ledger) (proper : Proper s) (p : ℕ) (permitted : Startable (s .table) p) where
@@ -31,17 +31,17 @@ module _ (s : Ledger) (proper : Proper s) (p : ℕ) (permitted : Startable (s .t
 
   -- the number that the start gives
   abbrev next : ℕ
-  next = started before + 1
+  next = highest before + 1
 
-  last-start : started after ≡ next
-  last-start = start-started before p (proper .sound .long) (permitted .room)
+  last-start : highest after ≡ next
+  last-start = start-highest before p (proper .sound .long) (permitted .room)
 
   -- who had started before keeps its row
-  row-kept : (m : ℕ) → IsStarted before m → RowKept before after m
+  row-kept : (m : ℕ) → IsGiven before m → RowKept before after m
   row-kept m h g inside = start-keeps-row before p m g (action-width g inside) (h .0) (λ z. omega arith)
 
   live-row-kept : (m : ℕ) → isAlive before m ≡ true → RowKept before after m
-  live-row-kept m l = row-kept m (alive-started before m l)
+  live-row-kept m l = row-kept m (alive-given before m l)
 
   start-keeps : Keeps before after
   start-keeps =
@@ -69,7 +69,7 @@ module _ (s : Ledger) (proper : Proper s) (p : ℕ) (permitted : Startable (s .t
 
   others-were-alive : (X : ℕ) → isAlive after X ≡ true → X ≢ next → isAlive before X ≡ true
   others-were-alive X l other =
-      let begun : IsStarted before X = omega (arith, alive-started after X l, last-start) in
+      let begun : IsGiven before X = omega (arith, alive-given after X l, last-start) in
       live-alive before X begun (rw (row-kept X begun stateField (inl (omega arith))) at (alive-live after X l))
 
   next-alive : isAlive after next ≡ true
@@ -84,7 +84,7 @@ module _ (s : Ledger) (proper : Proper s) (p : ℕ) (permitted : Startable (s .t
       (ap (λ entry. not (eqb entry 0)) (start-write before p (proper .sound .long) (permitted .room) k account)))
       (effect-no-account (withTable s after) next k)
 
-  pub start-starts : Start (abstraction s) (abstraction (start s p .after)) (started (s .table) + 1)
+  pub start-starts : Start (abstraction s) (abstraction (start s p .after)) (highest (s .table) + 1)
   unfolding start
   start-starts =
       record {

@@ -9,8 +9,8 @@ use lib.IntN.{_+ℤ_, +ℤ-idr}
 use borrow.Author.Tests.{ne-eqb}
 use Rattle.rules.specs.Card.{firstCharge, IsCharge, basePlace, cardAt}
 use Rattle.rules.specs.Amount.{withAmount, baseAmount}
-use Rattle.rules.specs.Table.{started, parentOf, hasWritten, pendingSum}
-use Rattle.rules.specs.Sound.{IsStarted}
+use Rattle.rules.specs.Table.{highest, parentOf, hasWritten, pendingSum}
+use Rattle.rules.specs.Sound.{IsGiven}
 use Rattle.rules.specs.Nearest.{nearest, readSum}
 use Rattle.rules.specs.Ledger.{Ledger}
 use Rattle.rules.proofs.Laws.Tests.{test}
@@ -62,11 +62,11 @@ module _ (s : Ledger) (proper : Proper s) (k : ℕ) (is : IsCharge k) where
       (card, view-store s k ∙ shown-charge k card (is-charge is) ∙ ap (charge card) (sym (readSum-store (s .table) (s .base) k)))
 
   action-sum :
-      (m : ℕ) → m ≢ 0 → Climbs (s .table) m → (parentOf (s .table) m ≤ started (s .table) → SumShown (parentOf (s .table) m)) →
-      m ≤ started (s .table) → SumShown m
+      (m : ℕ) → m ≢ 0 → Climbs (s .table) m → (parentOf (s .table) m ≤ highest (s .table) → SumShown (parentOf (s .table) m)) →
+      m ≤ highest (s .table) → SumShown m
   unfolding SumShown over
   action-sum m ne up above known =
-      let begun : IsStarted (s .table) m = (omega arith, known) in
+      let begun : IsGiven (s .table) m = (omega arith, known) in
       let (card, shown) = above (parent-known (proper .sound) m begun) in
       let sum = readSum (s .table) (s .base) (parentOf (s .table) m) k in
       rw (view-step s m k ne up, shown, readSum-step (s .table) (s .base) m k ne up)
@@ -77,12 +77,12 @@ module _ (s : Ledger) (proper : Proper s) (k : ℕ) (is : IsCharge k) where
       (card, rw (effect-unwritten s m k (is .1) unwritten, none) (ap (charge card) (sym (+ℤ-idr sum)))))
       (test (hasWritten (s .table) m k)))
 
-  sum-shown : (n : ℕ) → n ≤ started (s .table) → SumShown n
+  sum-shown : (n : ℕ) → n ≤ highest (s .table) → SumShown n
   sum-shown n known =
-      climb-holds (s .table) (λ m. m ≤ started (s .table) → SumShown m) (λ _. store-sum) action-sum n
+      climb-holds (s .table) (λ m. m ≤ highest (s .table) → SumShown m) (λ _. store-sum) action-sum n
       (sound-climbs (proper .sound) n known) known
 
   pub view-sum :
-      (n : ℕ) → n ≤ started (s .table) → viewOf s n k ≡ charge (cardShown (viewOf s n k)) (readSum (s .table) (s .base) n k)
+      (n : ℕ) → n ≤ highest (s .table) → viewOf s n k ≡ charge (cardShown (viewOf s n k)) (readSum (s .table) (s .base) n k)
   unfolding SumShown cardShown
   view-sum n known = let (card, shown) = sum-shown n known in rw shown refl

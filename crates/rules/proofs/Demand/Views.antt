@@ -9,8 +9,8 @@ use mathlib.Core.Bool.{true}
 use mathlib.Core.List.{List}
 use Rattle.rules.specs.Card.{accountCount, firstCharge, IsCharge, shadowPlace, cardAt}
 use Rattle.rules.specs.Kind.{kindUnder}
-use Rattle.rules.specs.Table.{IsActionField, word, started, parentField, parentOf, stateField, endField, readEntry, hasRead, subTime, readTime, writeField, writeEntry, hasWrites, pendingWord, isCommitted, hasEnd, isChildOf, isRecordOf}
-use Rattle.rules.specs.Sound.{IsStarted}
+use Rattle.rules.specs.Table.{IsActionField, word, highest, parentField, parentOf, stateField, endField, readEntry, hasRead, subTime, readTime, writeField, writeEntry, hasWrites, pendingWord, isCommitted, hasEnd, isChildOf, isRecordOf}
+use Rattle.rules.specs.Sound.{IsGiven}
 use Rattle.rules.specs.Ledger.{Ledger, withTable}
 use Rattle.rules.proofs.Laws.Tests.{and-left, and-right}
 use Rattle.rules.proofs.Sound.TableChanges.{TableChange, change-keeps-sound, writes-agree}
@@ -21,7 +21,7 @@ use Rattle.rules.proofs.Laws.Cards.{Fits}
 use Rattle.rules.proofs.Copies.Lines.{shadow-line, line-fits}
 use Rattle.rules.proofs.Demand.Abstraction.{isAlive, writtenEffect, effectOf, hasReadAccount, abstraction, Stale}
 use Rattle.rules.proofs.Demand.Proper.{Proper}
-use Rattle.rules.proofs.Demand.AbstractionLaws.{alive-started, alive-live, live-alive, read-account, read-entered, account-read, effect-account, effect-no-account, by-account, by-charge, abstract-tree}
+use Rattle.rules.proofs.Demand.AbstractionLaws.{alive-given, alive-live, live-alive, read-account, read-entered, account-read, effect-account, effect-no-account, by-account, by-charge, abstract-tree}
 
 -- ---- effects
 
@@ -68,7 +68,7 @@ same-no-later w v X k entry time h = le-of-eq (rw (entry, time) refl)
 
 -- A read is stale by a record: while the record's row is kept, whoever has read the account at no later a time has a stale read.
 pub stale-by-kept-row :
-    (s t : Ledger) {X Y Q k : ℕ} → k < accountCount → (st : Stale s X Q k) → IsStarted (t .table) (st .holder) →
+    (s t : Ledger) {X Y Q k : ℕ} → k < accountCount → (st : Stale s X Q k) → IsGiven (t .table) (st .holder) →
     RowKept (s .table) (t .table) (st .holder) → NoLater (s .table) X (t .table) Y k → Stale t Y Q k
 stale-by-kept-row s t {Q = Q} {k = k} account st begun row no-later =
     record {
@@ -81,8 +81,8 @@ stale-by-kept-row s t {Q = Q} {k = k} account st begun row no-later =
 
 -- every committed action keeps its row
 pub record RecordsKept (w v : List ℕ) : Type 0 where
-  pub noFewer : started w ≤ started v
-  pub rows : (m : ℕ) → IsStarted w m → isCommitted w m ≡ true → RowKept w v m
+  pub noFewer : highest w ≤ highest v
+  pub rows : (m : ℕ) → IsGiven w m → isCommitted w m ≡ true → RowKept w v m
 
 -- then every stale read stays stale: what makes it so is one of them
 pub stale-stays :
@@ -96,7 +96,7 @@ stale-stays s t {Q = Q} account kept no-later st =
 
 -- the card of a started action lies inside the store
 pub shadow-fits :
-    {s : Ledger} → Proper s → (X k : ℕ) → IsStarted (s .table) X → k < accountCount → Fits (s .shadow) (shadowPlace X k)
+    {s : Ledger} → Proper s → (X k : ℕ) → IsGiven (s .table) X → k < accountCount → Fits (s .shadow) (shadowPlace X k)
 shadow-fits {s} proper X k begun account =
     line-fits (shadow-line (s .shadow) X (proper .shadowFits) (omega (arith, begun, proper .sound .few))) k account
 
@@ -148,11 +148,11 @@ module _ (s : Ledger) (v : List ℕ) (kept : Keeps (s .table) v) where
 
 -- it makes nobody live
 pub same-parent : {w v : List ℕ} {now : ℕ} → TableChange w v now → (X : ℕ) → isAlive w X ≡ true → parentOf v X ≡ parentOf w X
-same-parent {w} c X l = c .parents X (alive-started w X l)
+same-parent {w} c X l = c .parents X (alive-given w X l)
 
 pub was-alive : {w v : List ℕ} {now : ℕ} → TableChange w v now → (X : ℕ) → isAlive v X ≡ true → isAlive w X ≡ true
 was-alive {w} {v} c X l =
-    let begun : IsStarted w X = rw (c .sameStarted) at (alive-started v X l) in
+    let begun : IsGiven w X = rw (c .sameHighest) at (alive-given v X l) in
     live-alive w X begun (c .wasLive X begun (alive-live v X l))
 
 pub change-keeps-proper : {s : Ledger} {v : List ℕ} {now : ℕ} → Proper s → TableChange (s .table) v now → Proper (withTable s v)

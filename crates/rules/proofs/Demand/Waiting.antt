@@ -11,7 +11,7 @@ use Rattle.rules.specs.Range.{filter}
 use Rattle.rules.specs.Card.{accountCount}
 use Rattle.rules.specs.Table.{parentField, parentOf, readField, hasRead, subTimeField, writeField, hasWritten, isCommitted}
 use Rattle.rules.specs.Queue.{Entry, hasFailed, isReady}
-use Rattle.rules.specs.Sound.{IsStarted}
+use Rattle.rules.specs.Sound.{IsGiven}
 use Rattle.rules.specs.Ledger.{Ledger}
 use Rattle.rules.proofs.Laws.Each.{Each, each-both, each-filter, each-append}
 use Rattle.rules.proofs.Serial.Stale.{Passes}
@@ -69,7 +69,7 @@ module _ (s t : Ledger) where
 
 -- whoever has committed in v had so in w, and no word of it has changed
 abbrev pub NoneCommits : List ℕ → List ℕ → Type 0
-NoneCommits w v = (m : ℕ) → IsStarted v m → isCommitted v m ≡ true → IsStarted w m × RowKept w v m
+NoneCommits w v = (m : ℕ) → IsGiven v m → isCommitted v m ≡ true → IsGiven w m × RowKept w v m
 
 module _ (s t : Ledger) (none : NoneCommits (s .table) (t .table)) (X : ℕ) (row : RowKept (s .table) (t .table) X) where
   -- so a read of X that is stale was so before

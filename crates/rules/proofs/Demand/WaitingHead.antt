@@ -14,7 +14,7 @@ use Rattle.rules.specs.Card.{accountCount}
 use Rattle.rules.specs.Kind.{IsKind, kindUnder}
 use Rattle.rules.specs.Table.{parentField, parentOf, kindOf, stateField, readField, hasRead, subTimeField, writeField, hasWritten, isCommitted, isChildOf, isRecordOf}
 use Rattle.rules.specs.Queue.{queueLength, Entry, hasFailed, entryAt, isReady, isHeadReady, queue, isQueued}
-use Rattle.rules.specs.Sound.{IsStarted}
+use Rattle.rules.specs.Sound.{IsGiven}
 use Rattle.rules.specs.Ledger.{Ledger}
 use Rattle.rules.specs.Commit.{committedUnder}
 use Rattle.rules.specs.Step.{headIn, headOut}
@@ -63,7 +63,7 @@ module _ {s : Ledger} (proper : Proper s) {n : ℕ} (free : Committable (s .tabl
     stale-by-other : {k : ℕ} → k < accountCount → (st : Stale after X Q k) → st .holder ≢ n → Stale s X Q k
     stale-by-other {k} account st other =
         let m = st .holder in
-        let begun : IsStarted (s .table) m = rw (table-change proper free refl .sameStarted) at (st .begun) in
+        let begun : IsGiven (s .table) m = rw (table-change proper free refl .sameHighest) at (st .begun) in
         let done : isCommitted (s .table) m ≡ true =
         rw (commit-keeps-row s n p (free .own .0) m stateField (omega arith) (begun .0) other (inr (omega arith)))
         at (record-committed table′ Q m (st .isRecord)) in

@@ -53,7 +53,7 @@ module _
 
   none-commits : NoneCommits (s .table) (given .table)
   none-commits m begun done = (
-    rw (queue-change (s .table) (proper .sound) h known es line 0 .sameStarted) at begun,
+    rw (queue-change (s .table) (proper .sound) h known es line 0 .sameHighest) at begun,
     queue-rows s proper h known es line m (begun .0),
   )
 

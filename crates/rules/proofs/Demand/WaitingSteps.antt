@@ -11,10 +11,10 @@ use lib.Dec.{eqb}
 use borrow.Author.Tests.{eqb-true, eq-eqb}
 use Rattle.rules.specs.Range.{any}
 use Rattle.rules.specs.Kind.{IsKind}
-use Rattle.rules.specs.Table.{committed, aborted, started, stateField, stateOf, withState, isLive, isCommitted}
+use Rattle.rules.specs.Table.{committed, aborted, highest, stateField, stateOf, withState, isLive, isCommitted}
 use Rattle.rules.specs.Walk.{isAbortedBy}
 use Rattle.rules.specs.Queue.{Entry, isOf, queue, isQueued, isWaiting}
-use Rattle.rules.specs.Sound.{IsStarted}
+use Rattle.rules.specs.Sound.{IsGiven}
 use Rattle.rules.specs.Ledger.{Ledger, withTable}
 use Rattle.rules.specs.Step.{startTable, start, readTable, read, abortTable, failedLedger}
 use Rattle.rules.specs.Serial.Effect.{Effect}
@@ -26,7 +26,7 @@ use Rattle.rules.proofs.Laws.Each.{Each}
 use Rattle.rules.proofs.Laws.Permitted.{Startable, Touchable, Committable}
 use Rattle.rules.proofs.Sound.TableChanges.{live-uncommitted}
 use Rattle.rules.proofs.Sound.QueueChanges.{action-width}
-use Rattle.rules.proofs.Sound.Starting.{start-keeps-row, start-line, start-started, start-state}
+use Rattle.rules.proofs.Sound.Starting.{start-keeps-row, start-line, start-highest, start-state}
 use Rattle.rules.proofs.Sound.Reading.{read-keeps-field, read-keeps-row, read-line, read-change}
 use Rattle.rules.proofs.Sound.Judging.{fail-line, fail-change}
 use Rattle.rules.proofs.Sound.Aborting.{Spared, abort-keeps-row, abort-keeps-committed, abort-line, abort-change}
@@ -70,7 +70,7 @@ waiting-kept s t same none rows waits h known =
 
 -- where n hasn't committed in v, and all others keep their words, nobody commits
 others-kept :
-    (w v : List ℕ) (n : ℕ) → started v ≡ started w → (isCommitted v n ≡ true → ⊥) → ((m : ℕ) → 1 ≤ m → m ≢ n → RowKept w v m) →
+    (w v : List ℕ) (n : ℕ) → highest v ≡ highest w → (isCommitted v n ≡ true → ⊥) → ((m : ℕ) → 1 ≤ m → m ≢ n → RowKept w v m) →
     NoneCommits w v
 others-kept w v n same unfinished rows m begun done =
     (rw same at begun, rows m (begun .0) (λ it. unfinished (rw it at done)))
@@ -83,31 +83,31 @@ module _ (s : Ledger) (proper : Proper s) where
   waiting-other : {n : ℕ} → isWaiting w n ≡ false → (h : ℕ) → IsKind h → (X : ℕ) → isQueued w h X ≡ true → X ≢ n
   waiting-other {n} unqueued h known X queued same = not-both queued (rw same (unqueued-in w n unqueued h known))
 
-  waiting-started : (h : ℕ) → IsKind h → (X : ℕ) → isQueued w h X ≡ true → IsStarted w X
-  waiting-started h known X queued = proper .sound .lines h known .waits X queued .begun
+  waiting-given : (h : ℕ) → IsKind h → (X : ℕ) → isQueued w h X ≡ true → IsGiven w X
+  waiting-given h known X queued = proper .sound .lines h known .waits X queued .begun
 
   -- a start
   module _ (p : ℕ) (permitted : Startable w p) where
-    old-row : (m : ℕ) → IsStarted w m → RowKept w (startTable w p) m
+    old-row : (m : ℕ) → IsGiven w m → RowKept w (startTable w p) m
     old-row m begun g inside = start-keeps-row w p m g (action-width g inside) (begun .0) (λ z. omega (arith, begun))
 
     old-committed : NoneCommits w (startTable w p)
-    old-committed m begun done = cases (ℕ-discrete m (started w + 1))
+    old-committed m begun done = cases (ℕ-discrete m (highest w + 1))
       where
-        cases : Dec (m ≡ started w + 1) → IsStarted w m × RowKept w (startTable w p) m
+        cases : Dec (m ≡ highest w + 1) → IsGiven w m × RowKept w (startTable w p) m
         cases (yes new) =
             absurd
             (live-uncommitted (startTable w p) m
             (rw new (eq-eqb _ _ (start-state w p (proper .sound .long) (permitted .room)))) done)
         cases (no old) =
-            let was : IsStarted w m = omega (arith, begun, start-started w p (proper .sound .long) (permitted .room)) in
+            let was : IsGiven w m = omega (arith, begun, start-highest w p (proper .sound .long) (permitted .room)) in
             (was, old-row m was)
 
     pub waits-start : Waiting s → Waiting (start s p .after)
     unfolding start
     waits-start =
         waiting-kept s (withTable s (startTable w p)) (start-line w p) old-committed
-        (λ h known X queued. old-row X (waiting-started h known X queued))
+        (λ h known X queued. old-row X (waiting-given h known X queued))
 
   -- a read
   module _ (n k : ℕ) (permitted : Touchable w n k) where
@@ -124,8 +124,8 @@ module _ (s : Ledger) (proper : Proper s) where
     waits-read =
         let change = read-change w n k (permitted .account) (proper .sound) (permitted .own) in
         waiting-kept s (withTable s (readTable w n k)) (read-line w n k (permitted .account) (proper .sound) (permitted .own))
-        (others-kept w (readTable w n k) n (change .sameStarted) (live-uncommitted (readTable w n k) n reader-live) read-row)
-        (λ h known X queued. read-row X (waiting-started h known X queued .0) (waiting-other (permitted .unqueued) h known X queued))
+        (others-kept w (readTable w n k) n (change .sameHighest) (live-uncommitted (readTable w n k) n reader-live) read-row)
+        (λ h known X queued. read-row X (waiting-given h known X queued .0) (waiting-other (permitted .unqueued) h known X queued))
 
   -- a write or an add
   pub waits-entering :
@@ -133,7 +133,7 @@ module _ (s : Ledger) (proper : Proper s) where
   waits-entering n k permitted t f enters =
       let still-live : isLive (t .table) n ≡ true = rw (enters .fields n stateField (omega arith)) (permitted .alive) in
       waiting-kept s t (enters .sameLine)
-      (others-kept w (t .table) n (enters .change .sameStarted) (live-uncommitted (t .table) n still-live) (λ m _. enters .rows m))
+      (others-kept w (t .table) n (enters .change .sameHighest) (live-uncommitted (t .table) n still-live) (λ m _. enters .rows m))
       (λ h known X queued. enters .rows X (waiting-other (permitted .unqueued) h known X queued))
 
   -- an action that doesn't wait fails
@@ -150,8 +150,8 @@ module _ (s : Ledger) (proper : Proper s) where
     pub waits-fail : Waiting s → Waiting (failedLedger s n)
     waits-fail =
         waiting-kept s (failedLedger s n) (fail-line w (proper .sound) n free)
-        (others-kept w (withState w n aborted) n (fail-change w (proper .sound) n free .sameStarted) failed-uncommitted fail-row)
-        (λ h known X queued. fail-row X (waiting-started h known X queued .0) (waiting-other (free .unqueued) h known X queued))
+        (others-kept w (withState w n aborted) n (fail-change w (proper .sound) n free .sameHighest) failed-uncommitted fail-row)
+        (λ h known X queued. fail-row X (waiting-given h known X queued .0) (waiting-other (free .unqueued) h known X queued))
 
   -- an abort that reaches nobody who waits
   module _ (n : ℕ) (spared : Spared w n (proper .sound)) where
@@ -159,7 +159,7 @@ module _ (s : Ledger) (proper : Proper s) where
     unreached-row m out g inside = abort-keeps-row w n m g (action-width g inside) (λ _ reached. not-both reached out)
 
     -- whom it reaches hasn't committed
-    committed-unreached : (m : ℕ) → IsStarted w m → isCommitted (abortTable w n) m ≡ true → isAbortedBy w n m ≡ false
+    committed-unreached : (m : ℕ) → IsGiven w m → isCommitted (abortTable w n) m ≡ true → isAbortedBy w n m ≡ false
     committed-unreached m begun done =
         false-of-not-true _
         (λ reached.
@@ -167,7 +167,7 @@ module _ (s : Ledger) (proper : Proper s) where
 
     abort-none-commits : NoneCommits w (abortTable w n)
     abort-none-commits m begun done =
-        let was : IsStarted w m = rw (abort-change w n (proper .sound) spared .sameStarted) at begun in
+        let was : IsGiven w m = rw (abort-change w n (proper .sound) spared .sameHighest) at begun in
         (was, unreached-row m (committed-unreached m was done))
 
     pub waits-abort : Waiting s → Waiting (withTable s (abortTable w n))

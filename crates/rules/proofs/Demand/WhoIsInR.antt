@@ -40,7 +40,7 @@ use Rattle.rules.proofs.Serial.Agreement.{Ends, Quiet, LetLeave, none-l
 use Rattle.rules.proofs.Serial.Following.{same-starts, same-acts}
 use Rattle.rules.proofs.Demand.Abstraction.{isAlive, abstraction}
 use Rattle.rules.proofs.Demand.Proper.{Proper, new-proper, step-keeps-proper, left-proper, out-proper, dropped-proper, head-out-proper, leave-proper}
-use Rattle.rules.proofs.Demand.AbstractionLaws.{new-nobody-alive, alive-started, alive-live, live-alive, abstract-tree}
+use Rattle.rules.proofs.Demand.AbstractionLaws.{new-nobody-alive, alive-given, alive-live, live-alive, abstract-tree}
 use Rattle.rules.proofs.Demand.Starts.{start-starts}
 use Rattle.rules.proofs.Demand.Reads.{read-told, read-reads}
 use Rattle.rules.proofs.Demand.Entering.{entering-writes}
@@ -62,8 +62,8 @@ module _
 
   others-stay : (X : ℕ) → X ≢ n → isAlive (s .table) X ≡ true → isAlive (committedUnder s n p .table) X ≡ true
   others-stay X other l =
-      let begun = alive-started (s .table) X l in
-      live-alive (committedUnder s n p .table) X (rw (table-change proper j refl .sameStarted) begun)
+      let begun = alive-given (s .table) X l in
+      live-alive (committedUnder s n p .table) X (rw (table-change proper j refl .sameHighest) begun)
       (rw (commit-keeps-row s n p (j .own .0) X stateField (omega arith) (begun .0) other (inr (omega arith)))
       (alive-live (s .table) X l))
 
@@ -148,7 +148,7 @@ module _ (s : Ledger) (proper : Proper s) (e : Event) where
       let st = start-starts s proper (e .number) permitted in
       change-tells (st .still)
       (record {
-        was-free = λ l. omega (arith, alive-started (s .table) _ l);
+        was-free = λ l. omega (arith, alive-given (s .table) _ l);
         now-live = st .started-live;
         under = start-parent (s .table) (e .number) (proper .sound .long) (permitted .room);
         nobody-else-new = st .nobody-else-new;

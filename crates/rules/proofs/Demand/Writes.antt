@@ -7,7 +7,7 @@ use mathlib.Core.List.{List}
 use Rattle.rules.specs.Card.{accountCount, firstCharge, IsCard, shadowPlace}
 use Rattle.rules.specs.Table.{width, word, subTimeField, writeField, writeEntry, pendingField}
 use Rattle.rules.specs.Queue.{queueLengthField}
-use Rattle.rules.specs.Sound.{IsStarted}
+use Rattle.rules.specs.Sound.{IsGiven}
 use Rattle.rules.specs.Ledger.{Ledger}
 use Rattle.rules.specs.Step.{writeTable, write}
 use Rattle.rules.specs.Serial.Effect.{puts, lay}
@@ -68,7 +68,7 @@ module _
   entry-elsewhere X j h (inl other) = row-kept X other (writeField j) (inl (omega arith))
   entry-elsewhere X j h (inr other) = field-kept X (writeField j) (omega arith) (λ z. other (omega arith))
 
-  effect-elsewhere : (X j : ℕ) → IsStarted (s .table) X → (X ≢ n) ⊎ (j ≢ k) → effectOf written X j ≡ effectOf s X j
+  effect-elsewhere : (X j : ℕ) → IsGiven (s .table) X → (X ≢ n) ⊎ (j ≢ k) → effectOf written X j ≡ effectOf s X j
   unfolding write
   effect-elsewhere X j begun elsewhere =
       effect-kept s written X j

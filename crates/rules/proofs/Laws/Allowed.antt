@@ -8,7 +8,7 @@ use mathlib.Core.List.{List, [], _++_}
 use lib.ListN.{length}
 use Rattle.rules.specs.Card.{accountCount, isCharge, cardLength, baseLength, shadowLength}
 use Rattle.rules.specs.Amount.{isAddable, amountIn}
-use Rattle.rules.specs.Table.{mostActions, started, kindOf, isLive, hasLiveChild}
+use Rattle.rules.specs.Table.{mostActions, highest, kindOf, isLive, hasLiveChild}
 use Rattle.rules.specs.Queue.{queueLength, isQueued, isQueuedReady, isWaiting}
 use Rattle.rules.specs.Sound.{sound}
 use Rattle.rules.specs.Event.{Event, startCode, judgeCode, isStart, isRead, isWrite, isCommit, isAbort, isAdd, isEnter, isJudge}
@@ -23,13 +23,13 @@ stores-fit base shadow = simp (not-fails, and-holds, eqb-holds) Iff·rfl
 code-known : (code : ℕ) → (isCodeUnknown code ≡ false) ↔ ((startCode ≤ code) × (code ≤ judgeCode))
 code-known code = simp (not-fails, and-holds, leb-holds) Iff·rfl
 
-number-known : (w : List ℕ) (start : Bool) (n : ℕ) → (isNumberUnknown w start n ≡ false) ↔ ((n ≤ started w) × (start ≡ false → 1 ≤ n))
+number-known : (w : List ℕ) (start : Bool) (n : ℕ) → (isNumberUnknown w start n ≡ false) ↔ ((n ≤ highest w) × (start ≡ false → 1 ≤ n))
 number-known w start n = simp (or-fails, and-fails-left, not-holds, ltb-fails, nonzero) Iff·rfl
 
 number-alive : (w : List ℕ) (n : ℕ) → (isNotLive w n ≡ false) ↔ (1 ≤ n → isLive w n ≡ true)
 number-alive w n = simp (and-fails, not-holds, not-fails, nonzero) Iff·rfl
 
-table-room : (w : List ℕ) (start : Bool) → (isTableFull w start ≡ false) ↔ (start ≡ true → started w < mostActions)
+table-room : (w : List ℕ) (start : Bool) → (isTableFull w start ≡ false) ↔ (start ≡ true → highest w < mostActions)
 table-room w start = simp (and-fails, leb-fails) Iff·rfl
 
 account-known : (used : Bool) (k : ℕ) → (isAccountUnknown used k ≡ false) ↔ (used ≡ true → k < accountCount)
@@ -65,10 +65,10 @@ queue-empty w used n = simp (and-fails, not-fails, eqb-holds) Iff·rfl
 -- what holds of an event that has none of the early causes
 pub record EarlyAllowed (w : List ℕ) (e : Event) : Type 0 where
   pub codeKnown : (startCode ≤ e .code) × (e .code ≤ judgeCode)
-  pub numberKnown : e .number ≤ started w
+  pub numberKnown : e .number ≤ highest w
   pub named : isStart e ≡ false → 1 ≤ e .number
   pub alive : 1 ≤ e .number → isLive w (e .number) ≡ true
-  pub room : isStart e ≡ true → started w < mostActions
+  pub room : isStart e ≡ true → highest w < mostActions
   pub accountKnown : (isRead e || isWrite e || isAdd e) ≡ true → e .account < accountCount
   pub cardFits : (isWrite e || isAdd e) ≡ true → length (e .card) ≡ cardLength
   pub chargeAdded : isAdd e ≡ true → isCharge (e .account) ≡ true

@@ -13,8 +13,8 @@ use Rattle.rules.specs.declared.Found.{Found}
 use Rattle.rules.specs.declared.Found.the-variants.{Nothing}
 use Rattle.rules.specs.Card.{accountCount, firstCharge, chargeCount, isCharge, chargeAccounts, IsCharge, IsCard}
 use Rattle.rules.specs.Amount.{isAmount, isAddable, amountIn}
-use Rattle.rules.specs.Table.{mostActions, started, parentOf, kindOf, hasWritten, pendingSum, ownAdds, isLive, isLiveChildOf, hasLiveChild, actions}
-use Rattle.rules.specs.Sound.{IsStarted}
+use Rattle.rules.specs.Table.{mostActions, highest, parentOf, kindOf, hasWritten, pendingSum, ownAdds, isLive, isLiveChildOf, hasLiveChild, actions}
+use Rattle.rules.specs.Sound.{IsGiven}
 use Rattle.rules.specs.Queue.{queueLength, isQueued, isQueuedReady, isWaiting}
 use Rattle.rules.specs.Event.{Event, startCode, readCode, writeCode, commitCode, abortCode, addCode, enterCode, judgeCode, isStart, isRead, isWrite, isCommit, isAdd, isEnter, isJudge}
 use Rattle.rules.specs.Ledger.{Ledger}
@@ -29,14 +29,14 @@ use Rattle.rules.proofs.Laws.EventCases.{causeIn, AllowedIn, OfStep, st
 
 -- an action may start under p: p is the store or live and isn't queued, and there is a number left
 pub record Startable (w : List ℕ) (p : ℕ) : Type 0 where
-  pub known : p ≤ started w
+  pub known : p ≤ highest w
   pub alive : 1 ≤ p → isLive w p ≡ true
-  pub room : started w < mostActions
+  pub room : highest w < mostActions
   pub unqueued : isWaiting w p ≡ false
 
 -- n may read account k, and write it or add to it: it is live, has no live child and isn't queued
 pub record Touchable (w : List ℕ) (n k : ℕ) : Type 0 where
-  pub own : IsStarted w n
+  pub own : IsGiven w n
   pub alive : isLive w n ≡ true
   pub childless : hasLiveChild w n ≡ false
   pub unqueued : isWaiting w n ≡ false
@@ -44,14 +44,14 @@ pub record Touchable (w : List ℕ) (n k : ℕ) : Type 0 where
 
 -- n may commit, fail or enter its queue: it is live, has no live child and isn't queued
 pub record Committable (w : List ℕ) (n : ℕ) : Type 0 where
-  pub own : IsStarted w n
+  pub own : IsGiven w n
   pub alive : isLive w n ≡ true
   pub childless : hasLiveChild w n ≡ false
   pub unqueued : isWaiting w n ≡ false
 
 -- n's verdict may be revealed: it waits in its queue and isn't ready
 pub record Judgeable (w : List ℕ) (n : ℕ) : Type 0 where
-  pub own : IsStarted w n
+  pub own : IsGiven w n
   pub queued : isQueued w (kindOf w n) n ≡ true
   pub unready : isQueuedReady w (kindOf w n) n ≡ false
 
@@ -82,8 +82,8 @@ module _ {s : Ledger} {e : Event} (a : AllowedIn s e) where
         unqueued = a .early .unqueued (no-judge-or-abort e startCode is refl);
       }
 
-  pub named-started : isStart e ≡ false → IsStarted (s .table) (e .number)
-  named-started other = (a .early .named other, a .early .numberKnown)
+  pub named-given : isStart e ≡ false → IsGiven (s .table) (e .number)
+  named-given other = (a .early .named other, a .early .numberKnown)
 
   named-alive : isStart e ≡ false → isLive (s .table) (e .number) ≡ true
   named-alive other = a .early .alive (a .early .named other)
@@ -97,7 +97,7 @@ module _ {s : Ledger} {e : Event} (a : AllowedIn s e) where
     free-permitted =
         let no = no-start e code is other in
         record {
-          own = named-started no;
+          own = named-given no;
           alive = named-alive no;
           childless = a .early .childless asks;
           unqueued = a .early .unqueued (no-judge-or-abort e code is waits);
@@ -118,7 +118,7 @@ module _ {s : Ledger} {e : Event} (a : AllowedIn s e) where
   pub judge-permitted : isJudge e ≡ true → Judgeable (s .table) (e .number)
   judge-permitted is =
       let (queued, unready) = a .early .judgeDue is in
-      record { own = named-started (no-start e judgeCode is refl); queued = queued; unready = unready }
+      record { own = named-given (no-start e judgeCode is refl); queued = queued; unready = unready }
 
   -- the sums that it makes, by its kind
   pub read-fits : isRead e ≡ true → isReadOutside (s .table) (s .base) (e .number) (e .account) ≡ false
@@ -207,10 +207,10 @@ module _ (w base : List ℕ) (n : ℕ) where
 -- ---- an action without a live child
 
 pub no-live-child :
-    (w : List ℕ) (n : ℕ) → hasLiveChild w n ≡ false → (m : ℕ) → IsStarted w m → isLive w m ≡ true → parentOf w m ≡ n → ⊥
+    (w : List ℕ) (n : ℕ) → hasLiveChild w n ≡ false → (m : ℕ) → IsGiven w m → isLive w m ≡ true → parentOf w m ≡ n → ⊥
 unfolding hasLiveChild actions
 no-live-child w n none m h l e =
-    not-both (and-both (eq-eqb _ _ e) l) (not-any-at (isLiveChildOf w n) 1 (started w) m none (omega arith))
+    not-both (and-both (eq-eqb _ _ e) l) (not-any-at (isLiveChildOf w n) 1 (highest w) m none (omega arith))
 
 -- where it is live it is not its own parent
 pub not-own-parent : {w : List ℕ} {n : ℕ} → Committable w n → parentOf w n ≢ n

@@ -7,7 +7,7 @@ use mathlib.Core.Logic.{_≢_}
 use mathlib.Core.Bool.{Bool, true, false, cond, true≢false}
 use mathlib.Core.List.{List}
 use Rattle.rules.specs.declared.Version.{Version}
-use Rattle.rules.specs.Table.{mostActions, started, parentOf, hasCard}
+use Rattle.rules.specs.Table.{mostActions, highest, parentOf, hasCard}
 use Rattle.rules.specs.Nearest.{nearest, movesUp, version, climbed, IsNearest}
 use Rattle.rules.specs.Sound.{Sound}
 use Rattle.rules.proofs.Laws.Tests.{cond-holds}
@@ -80,7 +80,7 @@ module _ {w : List ℕ} {k : ℕ} where
       fewer (suc m) h = near .fewer m (omega arith)
 
 -- RULES 3.1: on a sound table, seen from the store or any action, the version is the nearest by its meaning
-pub version-nearest : (w : List ℕ) → Sound w → (n k : ℕ) → n ≤ started w → IsNearest w n k (version w n k)
+pub version-nearest : (w : List ℕ) → Sound w → (n k : ℕ) → n ≤ highest w → IsNearest w n k (version w n k)
 version-nearest w s n k known =
     version-holds w k (λ m v. IsNearest w m k v) store-nearest own-nearest
     (λ m ne _. above-nearest m ne)

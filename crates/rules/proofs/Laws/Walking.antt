@@ -8,10 +8,10 @@ use mathlib.Core.Bool.{true, false, cond, _||_}
 use mathlib.Core.List.{List}
 use borrow.Author.Tests.{eqb-true, eqb-false, eq-eqb, ne-eqb}
 use lib.Dec.{eqb}
-use Rattle.rules.specs.Table.{mostActions, started, parentOf, hasCard}
+use Rattle.rules.specs.Table.{mostActions, highest, parentOf, hasCard}
 use Rattle.rules.specs.Walk.{walkUp, isAtOrBelow}
 use Rattle.rules.specs.Nearest.{nearest}
-use Rattle.rules.specs.Sound.{IsStarted, Sound}
+use Rattle.rules.specs.Sound.{IsGiven, Sound}
 use Rattle.rules.proofs.Laws.Tests.{or-inl, or-neither, cond-holds}
 use Rattle.rules.proofs.Laws.Climbing.{climbs, climbs-nowhere, climbs-parent, climbs-more, climbs-above, falling-climbs}
 
@@ -108,17 +108,17 @@ climb-holds w P store action n up =
 
 -- each started action has its parent below it
 abbrev pub Falls : List ℕ → Type 0
-Falls w = (m : ℕ) → IsStarted w m → parentOf w m < m
+Falls w = (m : ℕ) → IsGiven w m → parentOf w m < m
 
 -- a parent is the store or a started action
-pub parent-known : {w : List ℕ} → Sound w → (n : ℕ) → IsStarted w n → parentOf w n ≤ started w
+pub parent-known : {w : List ℕ} → Sound w → (n : ℕ) → IsGiven w n → parentOf w n ≤ highest w
 parent-known s n h = omega (arith, s .below n h)
 
-pub started-climbs : (w : List ℕ) → started w ≤ mostActions → Falls w → (n : ℕ) → n ≤ started w → Climbs w n
-started-climbs w few falls n known = falling-climbs (parentOf w) (started w) falls mostActions n known (omega arith)
+pub given-climbs : (w : List ℕ) → highest w ≤ mostActions → Falls w → (n : ℕ) → n ≤ highest w → Climbs w n
+given-climbs w few falls n known = falling-climbs (parentOf w) (highest w) falls mostActions n known (omega arith)
 
-pub sound-climbs : {w : List ℕ} → Sound w → (n : ℕ) → n ≤ started w → Climbs w n
-sound-climbs {w} s = started-climbs w (s .few) (s .below)
+pub sound-climbs : {w : List ℕ} → Sound w → (n : ℕ) → n ≤ highest w → Climbs w n
+sound-climbs {w} s = given-climbs w (s .few) (s .below)
 
 -- ---- the moves up to the store: 0 of the store itself, 1 of a topaction, and so on
 
@@ -145,13 +145,13 @@ module _ (w : List ℕ) (n k : ℕ) where
   nearest-step = walk-step _ _ _ mostActions n
 
 -- it is the store, or an action that has started
-pub nearest-started : (w : List ℕ) → Sound w → (n k : ℕ) → n ≤ started w → nearest w n k ≤ started w
+pub nearest-given : (w : List ℕ) → Sound w → (n k : ℕ) → n ≤ highest w → nearest w n k ≤ highest w
 unfolding nearest
-nearest-started w s n k known =
-    walk-holds _ _ _ (λ m near. m ≤ started w → near ≤ started w)
+nearest-given w s n k known =
+    walk-holds _ _ _ (λ m near. m ≤ highest w → near ≤ highest w)
     (λ h. h)
     (λ m ne near above h.
-    cond-holds (λ x. x ≤ started w) (hasCard w m k) (λ e. h) (λ e. above (parent-known s m (omega arith))))
+    cond-holds (λ x. x ≤ highest w) (hasCard w m k) (λ e. h) (λ e. above (parent-known s m (omega arith))))
     mostActions n (sound-climbs s n known) known
 
 -- ---- at or below an action

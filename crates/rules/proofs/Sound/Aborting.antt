@@ -13,10 +13,10 @@ use lib.ListN.{length}
 use Rattle.rules.specs.declared.Answer.the-variants.{Aborted}
 use Rattle.rules.specs.Range.{count}
 use Rattle.rules.specs.Kind.{IsKind}
-use Rattle.rules.specs.Table.{hasEnd, width, live, committed, aborted, word, startedField, started, counterField, counter, parentField, parentOf, stateField, stateOf, endField, readField, readEntry, subTimeField, subTime, writeField, pendingField, isLive, isCommitted, actions}
+use Rattle.rules.specs.Table.{hasEnd, width, live, committed, aborted, word, highestField, highest, counterField, counter, parentField, parentOf, stateField, stateOf, endField, readField, readEntry, subTimeField, subTime, writeField, pendingField, isLive, isCommitted, actions}
 use Rattle.rules.specs.Walk.{isAtOrBelow, isAbortedBy}
 use Rattle.rules.specs.Queue.{queueLengthField, isQueued}
-use Rattle.rules.specs.Sound.{isCommittedOf, hasState, IsStarted, Sound}
+use Rattle.rules.specs.Sound.{isCommittedOf, hasState, IsGiven, Sound}
 use Rattle.rules.specs.Ledger.{Ledger}
 use Rattle.rules.specs.Step.{abortTable, outOfBoth, dropped, abortLeft, abort}
 use Rattle.rules.proofs.Laws.Tests.{and-left, and-right, and-both, cond-holds}
@@ -36,26 +36,26 @@ becameAborted w v m = isLive w m && eqb (stateOf v m) aborted
 module _ (w : List ℕ) (n : ℕ) where
   pub abort-length : length (abortTable w n) ≡ length w
   unfolding abortTable actions
-  abort-length = pass-length (isAbortedBy w n) stateField (omega arith) (λ _. aborted) (started w) w
+  abort-length = pass-length (isAbortedBy w n) stateField (omega arith) (λ _. aborted) (highest w) w
 
   -- every field but the states
   pub abort-keeps-field : (m g : ℕ) → g < width → g ≢ stateField → word (abortTable w n) m g ≡ word w m g
   unfolding abortTable actions
-  abort-keeps-field = pass-other-field (isAbortedBy w n) stateField (omega arith) (λ _. aborted) (started w) w
+  abort-keeps-field = pass-other-field (isAbortedBy w n) stateField (omega arith) (λ _. aborted) (highest w) w
 
-  -- every row that is not reached: the head's, those above the last start, and those of the other actions
+  -- every row that is not reached: the head's, those above the highest number, and those of the other actions
   pub abort-keeps-row :
-      (m g : ℕ) → g < width → (IsStarted w m → isAbortedBy w n m ≡ true → ⊥) → word (abortTable w n) m g ≡ word w m g
+      (m g : ℕ) → g < width → (IsGiven w m → isAbortedBy w n m ≡ true → ⊥) → word (abortTable w n) m g ≡ word w m g
   unfolding abortTable actions
-  abort-keeps-row = pass-other-row (isAbortedBy w n) stateField (omega arith) (λ _. aborted) (started w) w
+  abort-keeps-row = pass-other-row (isAbortedBy w n) stateField (omega arith) (λ _. aborted) (highest w) w
 
   module _ (s : Sound w) where
-    pub abort-state : (m : ℕ) → IsStarted w m → stateOf (abortTable w n) m ≡ cond (isAbortedBy w n m) aborted (stateOf w m)
+    pub abort-state : (m : ℕ) → IsGiven w m → stateOf (abortTable w n) m ≡ cond (isAbortedBy w n m) aborted (stateOf w m)
     unfolding abortTable actions
-    abort-state = pass-field (isAbortedBy w n) stateField (omega arith) (λ _. aborted) (started w) w (s .long) (s .few)
+    abort-state = pass-field (isAbortedBy w n) stateField (omega arith) (λ _. aborted) (highest w) w (s .long) (s .few)
 
     -- an action is live afterwards where it was and is not at or below n
-    pub abort-live : (m : ℕ) → IsStarted w m → isLive (abortTable w n) m ≡ (isLive w m && not (isAtOrBelow w n m))
+    pub abort-live : (m : ℕ) → IsGiven w m → isLive (abortTable w n) m ≡ (isLive w m && not (isAtOrBelow w n m))
     abort-live m h = rw (abort-state m h) (left (isLive w m) (isAtOrBelow w n m) refl)
       where
         left : (l b : Bool) → isLive w m ≡ l → eqb (cond (l && b) aborted (stateOf w m)) live ≡ (l && not b)
@@ -65,23 +65,23 @@ module _ (w : List ℕ) (n : ℕ) where
 
     -- ---- it keeps the table sound
 
-    started-kept : started (abortTable w n) ≡ started w
-    started-kept = abort-keeps-field 0 startedField (omega arith) (λ z. omega arith)
+    highest-kept : highest (abortTable w n) ≡ highest w
+    highest-kept = abort-keeps-field 0 highestField (omega arith) (λ z. omega arith)
 
     counter-kept : (h : ℕ) → IsKind h → counter (abortTable w n) h ≡ counter w h
     counter-kept h known = abort-keeps-row 0 (counterField h) (omega arith) (λ begun _. omega arith)
 
-    state-valid : (m : ℕ) → IsStarted w m → hasState (abortTable w n) m ≡ true
+    state-valid : (m : ℕ) → IsGiven w m → hasState (abortTable w n) m ≡ true
     state-valid m h =
         rw (abort-state m h)
         (cond-holds (λ x. (eqb x live || eqb x committed || eqb x aborted) ≡ true) (isAbortedBy w n m) (λ q. refl) (λ q. s .states m h))
 
-    was-live : (m : ℕ) → IsStarted w m → isLive (abortTable w n) m ≡ true → isLive w m ≡ true
+    was-live : (m : ℕ) → IsGiven w m → isLive (abortTable w n) m ≡ true → isLive w m ≡ true
     was-live m h l = and-left (isLive w m) _ (sym (abort-live m h) ∙ l)
 
     -- a live action that is left has its parent left: were the parent at or below n, the action would be too
     parent-left :
-        (m : ℕ) → IsStarted w m → isLive (abortTable w n) m ≡ true → isLive w (parentOf w m) ≡ true → 1 ≤ parentOf w m →
+        (m : ℕ) → IsGiven w m → isLive (abortTable w n) m ≡ true → isLive w (parentOf w m) ≡ true → 1 ≤ parentOf w m →
         isLive (abortTable w n) (parentOf w m) ≡ true
     parent-left m h l p one =
         let out = not-true (isAtOrBelow w n m) (and-right (isLive w m) _ (sym (abort-live m h) ∙ l)) in
@@ -89,7 +89,7 @@ module _ (w : List ℕ) (n : ℕ) where
         (and-both p (ap not (notBelow-parent w n m (λ z. omega arith) (sound-climbs s m (h .1)) out)))
 
     -- what becomes aborted was live, not committed
-    pub abort-keeps-committed : (m : ℕ) → IsStarted w m → isCommitted (abortTable w n) m ≡ isCommitted w m
+    pub abort-keeps-committed : (m : ℕ) → IsGiven w m → isCommitted (abortTable w n) m ≡ isCommitted w m
     abort-keeps-committed m h =
         rw (abort-state m h)
         (cond-holds (λ x. eqb x committed ≡ isCommitted w m) (isAbortedBy w n m)
@@ -100,12 +100,12 @@ module _ (w : List ℕ) (n : ℕ) where
         (h : ℕ) → count (isCommittedOf (abortTable w n) h) (actions (abortTable w n)) ≡ count (isCommittedOf w h) (actions w)
     unfolding actions
     count-kept h =
-        rw started-kept
-        (count-agree _ _ 1 (started w)
+        rw highest-kept
+        (count-agree _ _ 1 (highest w)
         (λ m r.
         rw (abort-keeps-committed m (omega arith), abort-keeps-field m parentField (omega arith) (λ z. omega arith)) refl))
 
-    end-kept : (m : ℕ) → IsStarted w m → hasEnd (abortTable w n) m ≡ hasEnd w m
+    end-kept : (m : ℕ) → IsGiven w m → hasEnd (abortTable w n) m ≡ hasEnd w m
     end-kept m h =
         ap₂ _&&_ (abort-keeps-committed m h)
         (writes-agree w _ m (λ k hk. abort-keeps-field m (writeField k) (omega arith) (λ z. omega arith)))
@@ -137,7 +137,7 @@ module _ (w : List ℕ) (n : ℕ) where
     abort-change spared =
         record {
           long = abort-length ∙ s .long;
-          sameStarted = started-kept;
+          sameHighest = highest-kept;
           rising = λ h known. le-of-eq (sym (counter-kept h known));
           counted = λ h known. rw (counter-kept h known, count-kept h) (s .counted h known);
           states = state-valid;
@@ -152,20 +152,20 @@ module _ (w : List ℕ) (n : ℕ) where
               (abort-keeps-field m (pendingField k) (omega arith) (λ z. omega arith));
           lines =
               λ h known.
-              line-stays w (abortTable w n) s h known (abort-line h known) started-kept
+              line-stays w (abortTable w n) s h known (abort-line h known) highest-kept
               (λ m _. abort-keeps-field m parentField (omega arith) (λ z. omega arith)) was-live (waiting-left spared h known);
         }
 
     -- ---- RULES 2.6: the count of the answer
 
     -- n is one of them
-    pub abort-counts-itself : IsStarted w n → isLive w n ≡ true → 1 ≤ count (isAbortedBy w n) (actions w)
+    pub abort-counts-itself : IsGiven w n → isLive w n ≡ true → 1 ≤ count (isAbortedBy w n) (actions w)
     unfolding actions
     abort-counts-itself h l =
         count-some (isAbortedBy w n) _
-        (any-at (isAbortedBy w n) 1 (started w) n (omega arith) (and-both l (atOrBelow-itself w n (λ z. omega arith) (sound-climbs s n (h .1)))))
+        (any-at (isAbortedBy w n) 1 (highest w) n (omega arith) (and-both l (atOrBelow-itself w n (λ z. omega arith) (sound-climbs s n (h .1)))))
 
-    reached-became-aborted : (m : ℕ) → IsStarted w m → isAbortedBy w n m ≡ becameAborted w (abortTable w n) m
+    reached-became-aborted : (m : ℕ) → IsGiven w m → isAbortedBy w n m ≡ becameAborted w (abortTable w n) m
     reached-became-aborted m h = rw (abort-state m h) (reached (isLive w m) (isAtOrBelow w n m) refl)
       where
         reached : (l b : Bool) → isLive w m ≡ l → (l && b) ≡ (l && eqb (cond (l && b) aborted (stateOf w m)) aborted)
@@ -177,13 +177,13 @@ module _ (w : List ℕ) (n : ℕ) where
 module _ (s : Ledger) (n : ℕ) (sound : Sound (s .table)) where
   -- those who wait and are reached have been taken out, by a change of the queues alone
   dropped-aborted :
-      (m : ℕ) → IsStarted (s .table) m →
+      (m : ℕ) → IsGiven (s .table) m →
       isAbortedBy (s .table) n m ≡ becameAborted (s .table) (abortTable (outOfBoth (s .table) n) n) m
   dropped-aborted m h =
       let kept = out-keeps sound n in
       sym (out-reach sound n m)
       ∙ reached-became-aborted (outOfBoth (s .table) n) n (out-sound sound n) m
-      (rw (kept 0 startedField (inl (omega arith)) (inr (inl (omega arith)))) h)
+      (rw (kept 0 highestField (inl (omega arith)) (inr (inl (omega arith)))) h)
       ∙ rw (kept m stateField (inl (omega arith)) (inr (inl (omega arith))))
 
   pub abort-counts :
@@ -192,4 +192,4 @@ module _ (s : Ledger) (n : ℕ) (sound : Sound (s .table)) where
   unfolding abort dropped actions
   abort-counts =
       ap (λ c. Aborted c (abortLeft s n .many))
-      (count-agree _ _ 1 (started (s .table)) (λ m r. dropped-aborted m (omega arith)))
+      (count-agree _ _ 1 (highest (s .table)) (λ m r. dropped-aborted m (omega arith)))

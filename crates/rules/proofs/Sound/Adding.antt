@@ -12,7 +12,7 @@ use lib.ListN.{length}
 use Rattle.rules.specs.Card.{firstCharge, IsCharge}
 use Rattle.rules.specs.Amount.{amountWord}
 use Rattle.rules.specs.Table.{entryFields, width, word, writeField, writeEntry, withWrite, entered, pendingField, pendingWord, withPending, pendingSum, ownAddsField, ownAddsWord, ownAdds, isLive}
-use Rattle.rules.specs.Sound.{IsStarted, Sound}
+use Rattle.rules.specs.Sound.{IsGiven, Sound}
 use Rattle.rules.specs.Step.{addTable}
 use Rattle.rules.proofs.Laws.Words.{withWord-length, word-same, word-other-field, word-off-field, word-other-row}
 use Rattle.rules.proofs.Sound.TableChanges.{TableChange, entering-change}
@@ -22,7 +22,7 @@ abbrev pub firstOwnAdds : ℕ
 firstOwnAdds = ownAddsField firstCharge
 
 module _
-    (w : List ℕ) (s : Sound w) (n k : ℕ) (own : IsStarted w n) (alive : isLive w n ≡ true) (charge : IsCharge k) (x : ℤ) where
+    (w : List ℕ) (s : Sound w) (n k : ℕ) (own : IsGiven w n) (alive : isLive w n ≡ true) (charge : IsCharge k) (x : ℤ) where
   -- the table with the account entered, then the sum put in; the own adds come last
   abbrev marked : List ℕ
   marked = withWrite w n k entered

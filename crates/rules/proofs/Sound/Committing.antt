@@ -11,7 +11,7 @@ use lib.Dec.{eqb}
 use lib.ListN.{length}
 use Rattle.rules.specs.Card.{accountCount, firstCharge, IsCharge}
 use Rattle.rules.specs.Kind.{IsKind, topKind, kindUnder}
-use Rattle.rules.specs.Table.{width, tableLength, mostActions, committed, word, startedField, started, counterField, counter, parentField, parentOf, kindOf, stateField, stateOf, withState, endField, endTime, withEndTime, readFields, readField, readEntry, hasRead, subTimeFields, subTimeField, subTime, readTime, writeField, writeEntry, entered, hasWritten, hasWrites, pendingField, pendingWord, ownAddsField, ownAddsWord}
+use Rattle.rules.specs.Table.{width, tableLength, mostActions, committed, word, highestField, highest, counterField, counter, parentField, parentOf, kindOf, stateField, stateOf, withState, endField, endTime, withEndTime, readFields, readField, readEntry, hasRead, subTimeFields, subTimeField, subTime, readTime, writeField, writeEntry, entered, hasWritten, hasWrites, pendingField, pendingWord, ownAddsField, ownAddsWord}
 use Rattle.rules.specs.Queue.{queueLengthField}
 use Rattle.rules.specs.Ledger.{Ledger}
 use Rattle.rules.specs.Commit.{copiedDown, commitTime, commitCounter, endTable, passesRead, joinedWord, joinedRead, joinedTime, joinTable, committedUnder}
@@ -147,10 +147,10 @@ module _ (s : Ledger) (n p : ℕ) (one : 1 ≤ n) where
       go (yes e) = rw (eq-eqb p 0 e) ended-length
       go (no ne) = rw (ne-eqb p 0 ne) (withBothSets-length ended p _ _ _ ∙ ended-length)
 
-  pub commit-started : started (committedUnder s n p .table) ≡ started (s .table)
-  commit-started =
-      joined-elsewhere 0 startedField (omega arith) (inr (omega arith, inl (omega arith)))
-      ∙ ended-field 0 startedField (omega arith) (λ z. omega arith) (λ z. omega arith) (inr (inl (omega arith)))
+  pub commit-highest : highest (committedUnder s n p .table) ≡ highest (s .table)
+  commit-highest =
+      joined-elsewhere 0 highestField (omega arith) (inr (omega arith, inl (omega arith)))
+      ∙ ended-field 0 highestField (omega arith) (λ z. omega arith) (λ z. omega arith) (inr (inl (omega arith)))
 
   pub commit-parent : (m : ℕ) → parentOf (committedUnder s n p .table) m ≡ parentOf (s .table) m
   commit-parent m =

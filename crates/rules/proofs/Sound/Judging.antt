@@ -12,9 +12,9 @@ use lib.Dec.{eqb}
 use Rattle.rules.specs.Range.{count}
 use Rattle.rules.specs.Card.{accountCount, IsCharge}
 use Rattle.rules.specs.Kind.{IsKind, kindUnder}
-use Rattle.rules.specs.Table.{hasEnd, width, mostActions, live, committed, aborted, word, startedField, started, counterField, counter, parentField, parentOf, kindOf, stateField, stateOf, withState, endField, endTime, readField, readEntry, hasRead, subTimeField, subTime, readTime, writeField, writeEntry, entered, hasWritten, hasWrites, pendingField, pendingWord, isLive, isCommitted, actions}
+use Rattle.rules.specs.Table.{hasEnd, width, mostActions, live, committed, aborted, word, highestField, highest, counterField, counter, parentField, parentOf, kindOf, stateField, stateOf, withState, endField, endTime, readField, readEntry, hasRead, subTimeField, subTime, readTime, writeField, writeEntry, entered, hasWritten, hasWrites, pendingField, pendingWord, isLive, isCommitted, actions}
 use Rattle.rules.specs.Queue.{queueLengthField, isQueued}
-use Rattle.rules.specs.Sound.{isCommittedOf, hasState, IsStarted, Sound}
+use Rattle.rules.specs.Sound.{isCommittedOf, hasState, IsGiven, Sound}
 use Rattle.rules.specs.Ledger.{Ledger}
 use Rattle.rules.specs.Commit.{commitTime, commitCounter, passesRead, joinedWord, joinedRead, committedUnder}
 use Rattle.rules.proofs.Laws.Tests.{and-left, and-right, and-both, and-false, test, not-both, false-of-not-true}
@@ -26,7 +26,7 @@ use Rattle.rules.proofs.Laws.Queue.{SameLine}
 use Rattle.rules.proofs.Laws.Walking.{parent-known}
 use Rattle.rules.proofs.Copies.Turns.{addedWord}
 use Rattle.rules.proofs.Sound.TableChanges.{ReadsInTime, TableChange, Ended, SumStays, sum-stays, line-stays, writes-agree, live-uncommitted}
-use Rattle.rules.proofs.Sound.Committing.{commit-length, commit-started, commit-parent, commit-keeps-row, commit-keeps-sets, commit-keeps-others, commit-line, commit-counter, commit-other-counter, commit-state, commit-end, commit-read, commit-read-time, commit-write, commit-pending}
+use Rattle.rules.proofs.Sound.Committing.{commit-length, commit-highest, commit-parent, commit-keeps-row, commit-keeps-sets, commit-keeps-others, commit-line, commit-counter, commit-other-counter, commit-state, commit-end, commit-read, commit-read-time, commit-write, commit-pending}
 
 -- ---- one action finishes: what its state alone gives of a change
 
@@ -40,15 +40,15 @@ module _ (w v : List ℕ) (n : ℕ) (j : Committable w n)
   pub still-live-other : (m : ℕ) → isLive v m ≡ true → m ≢ n
   still-live-other m l e = finished-not-live (rw e at l)
 
-  pub was-live : (m : ℕ) → IsStarted w m → isLive v m ≡ true → isLive w m ≡ true
+  pub was-live : (m : ℕ) → IsGiven w m → isLive v m ≡ true → isLive w m ≡ true
   was-live m h l = rw (others m (h .0) (still-live-other m l)) at l
 
   pub parent-stays :
-      (m : ℕ) → IsStarted w m → isLive v m ≡ true → isLive w (parentOf w m) ≡ true → 1 ≤ parentOf w m → isLive v (parentOf w m) ≡ true
+      (m : ℕ) → IsGiven w m → isLive v m ≡ true → isLive w (parentOf w m) ≡ true → 1 ≤ parentOf w m → isLive v (parentOf w m) ≡ true
   parent-stays m h l q pos =
       rw (others (parentOf w m) pos (no-live-child w n (j .childless) m h (was-live m h l))) q
 
-  pub has-state : Sound w → (m : ℕ) → IsStarted w m → hasState v m ≡ true
+  pub has-state : Sound w → (m : ℕ) → IsGiven w m → hasState v m ≡ true
   has-state s m h = go (ℕ-discrete m n)
     where
       of-n : hasState v n ≡ true
@@ -90,7 +90,7 @@ module _ (w : List ℕ) (s : Sound w) (n : ℕ) (j : Committable w n) where
       go (yes e) = rw e (rw fail-state (sym (false-of-not-true _ (live-uncommitted w n (j .alive)))))
       go (no ne) = ap (λ x. eqb x committed) (fail-others m pos ne)
 
-  fail-end : (m : ℕ) → IsStarted w m → hasEnd failed m ≡ true → hasEnd w m ≡ true
+  fail-end : (m : ℕ) → IsGiven w m → hasEnd failed m ≡ true → hasEnd w m ≡ true
   fail-end m h e =
       let did = rw (fail-committed m (h .0)) at (and-left (isCommitted failed m) (hasWrites failed m) e) in
       let other : m ≢ n = λ z. live-uncommitted w n (j .alive) (rw z at did) in
@@ -123,14 +123,14 @@ module _ (w : List ℕ) (s : Sound w) (n : ℕ) (j : Committable w n) where
   fail-change =
       record {
         long = withWord-length w n stateField aborted ∙ s .long;
-        sameStarted = fail-head startedField (omega arith);
+        sameHighest = fail-head highestField (omega arith);
         rising = λ h known. le-of-eq (sym (fail-counter h known));
         counted =
             λ h known.
             rw (
               fail-counter h known,
-              fail-head startedField (omega arith),
-              count-agree (isCommittedOf failed h) (isCommittedOf w h) 1 (started w) (λ m r. fail-counted h m (r .0)),
+              fail-head highestField (omega arith),
+              count-agree (isCommittedOf failed h) (isCommittedOf w h) 1 (highest w) (λ m r. fail-counted h m (r .0)),
             )
             (s .counted h known);
         states = has-state w failed n j (inr fail-state) fail-others s;
@@ -146,7 +146,7 @@ module _ (w : List ℕ) (s : Sound w) (n : ℕ) (j : Committable w n) where
         lines =
             λ h known.
             line-stays w failed s h known (fail-line h known)
-            (fail-head startedField (omega arith))
+            (fail-head highestField (omega arith))
             (λ m _. fail-keeps-field m parentField (omega arith) (λ z. omega arith))
             (was-live w failed n j (inr fail-state) fail-others)
             (waiting-stays w failed n j (inr fail-state) fail-others s h known);
@@ -181,8 +181,8 @@ module _ (ledger : Ledger) (s : Sound (ledger .table)) (n : ℕ) (j : Committabl
   n-few : n ≤ mostActions
   n-few = omega (arith, j .own, s .few)
 
-  parent-started : parent ≤ started w
-  parent-started = parent-known s n (j .own)
+  parent-given : parent ≤ highest w
+  parent-given = parent-known s n (j .own)
 
   -- a parent that is an action is a live one
   parent-live : 1 ≤ parent → isLive w parent ≡ true
@@ -224,8 +224,8 @@ module _ (ledger : Ledger) (s : Sound (ledger .table)) (n : ℕ) (j : Committabl
   one-more-committed : count (isCommittedOf passed kind) (actions passed) ≡ suc (count (isCommittedOf w kind) (actions w))
   unfolding actions
   one-more-committed =
-      rw (commit-started ledger n parent (j .own .0))
-      (count-one-more (isCommittedOf w kind) (isCommittedOf passed kind) 1 (started w) n (omega (arith, j .own))
+      rw (commit-highest ledger n parent (j .own .0))
+      (count-one-more (isCommittedOf w kind) (isCommittedOf passed kind) 1 (highest w) n (omega (arith, j .own))
       (rw (false-of-not-true _ (live-uncommitted w n (j .alive))) refl)
       (and-both (eq-eqb _ _ pass-state) (eq-eqb _ _ (ap kindUnder (pass-parent n))))
       (λ m h ne. rw (pass-others m (h .0) ne, pass-parent m) refl))
@@ -234,8 +234,8 @@ module _ (ledger : Ledger) (s : Sound (ledger .table)) (n : ℕ) (j : Committabl
       (h : ℕ) → h ≢ kind → count (isCommittedOf passed h) (actions passed) ≡ count (isCommittedOf w h) (actions w)
   unfolding actions
   others-committed h apart =
-      rw (commit-started ledger n parent (j .own .0))
-      (count-agree (isCommittedOf passed h) (isCommittedOf w h) 1 (started w) (λ m r. same m (r .0) (ℕ-discrete m n)))
+      rw (commit-highest ledger n parent (j .own .0))
+      (count-agree (isCommittedOf passed h) (isCommittedOf w h) 1 (highest w) (λ m r. same m (r .0) (ℕ-discrete m n)))
     where
       same : (m : ℕ) → 1 ≤ m → Dec (m ≡ n) → isCommittedOf passed h m ≡ isCommittedOf w h m
       same m pos (yes e) =
@@ -264,7 +264,7 @@ module _ (ledger : Ledger) (s : Sound (ledger .table)) (n : ℕ) (j : Committabl
           ∙ and-right (isCommitted passed n) (hasWrites passed n) e
 
   -- another action that has an end keeps its row: it is committed, and the parent is live
-  other-end : (m : ℕ) → IsStarted w m → m ≢ n → hasEnd passed m ≡ true → Ended w passed n m
+  other-end : (m : ℕ) → IsGiven w m → m ≢ n → hasEnd passed m ≡ true → Ended w passed n m
   other-end m h ne e =
       let did : isCommitted w m ≡ true = rw (pass-others m (h .0) ne) at (and-left (isCommitted passed m) (hasWrites passed m) e) in
       let apart : m ≢ parent = λ z. live-uncommitted w m (rw z (parent-live (rw z at (h .0)))) did in
@@ -275,7 +275,7 @@ module _ (ledger : Ledger) (s : Sound (ledger .table)) (n : ℕ) (j : Committabl
         commit-keeps-row ledger n parent (j .own .0) m endField (omega arith) (h .0) ne (inr (omega arith)),
       )
 
-  pass-end : (m : ℕ) → IsStarted w m → hasEnd passed m ≡ true → Ended w passed n m
+  pass-end : (m : ℕ) → IsGiven w m → hasEnd passed m ≡ true → Ended w passed n m
   pass-end m h e = go (ℕ-discrete m n)
     where
       go : Dec (m ≡ n) → Ended w passed n m
@@ -284,7 +284,7 @@ module _ (ledger : Ledger) (s : Sound (ledger .table)) (n : ℕ) (j : Committabl
 
   -- a read that was there has a time of each kind within that kind's counter now
   old-time :
-      (h m k : ℕ) → IsKind h → IsStarted w m → isLive w m ≡ true → k < accountCount → hasRead w m k ≡ true →
+      (h m k : ℕ) → IsKind h → IsGiven w m → isLive w m ≡ true → k < accountCount → hasRead w m k ≡ true →
       readTime w h m k ≤ counter passed h
   old-time h m k known begun l hk r = le-trans (s .reads h m k known begun l hk r) (pass-rising h known)
 
@@ -300,12 +300,12 @@ module _ (ledger : Ledger) (s : Sound (ledger .table)) (n : ℕ) (j : Committabl
       go : Dec (m ≡ parent) → readTime passed h m k ≤ counter passed h
       go (yes z) =
           let pos : 1 ≤ parent = rw z at (begun .0) in
-          let few : parent ≤ mostActions = omega (arith, parent-started, s .few) in
+          let few : parent ≤ mostActions = omega (arith, parent-given, s .few) in
           let entry = commit-read ledger n parent (j .own .0) (s .long) n-few pos few k hk in
           rw (z, commit-read-time ledger n parent (j .own .0) (s .long) n-few pos few h k hk)
           (joined-bound w n parent k (readTime w h n k) (readTime w h parent k) (counter passed h)
           (old-time h n k known (j .own) (j .alive) hk)
-          (old-time h parent k known (pos, parent-started) (parent-live pos) hk)
+          (old-time h parent k known (pos, parent-given) (parent-live pos) hk)
           (rw (z, entry) at r))
       go (no ne) =
           let entry : readEntry passed m k ≡ readEntry w m k =
@@ -319,7 +319,7 @@ module _ (ledger : Ledger) (s : Sound (ledger .table)) (n : ℕ) (j : Committabl
   parent-sums pos k charge = go (hasWritten w n k) refl
     where
       low : parent ≤ mostActions
-      low = omega (arith, parent-started, s .few)
+      low = omega (arith, parent-given, s .few)
 
       entry : writeEntry passed parent k ≡ cond (hasWritten w n k) entered (writeEntry w parent k)
       entry = commit-write ledger n parent (j .own .0) (s .long) n-few pos low k (charge .1)
@@ -331,7 +331,7 @@ module _ (ledger : Ledger) (s : Sound (ledger .table)) (n : ℕ) (j : Committabl
       go true wrote = λ none. absurd (not-both (rw (entry, wrote) refl) none)
       go false wrote = sum-stays w passed parent k (entry ∙ rw wrote refl) (sum ∙ rw wrote refl)
 
-  pass-sums : (m k : ℕ) → IsStarted w m → IsCharge k → SumStays w passed m k
+  pass-sums : (m k : ℕ) → IsGiven w m → IsCharge k → SumStays w passed m k
   pass-sums m k h charge = go (ℕ-discrete m parent)
     where
       go : Dec (m ≡ parent) → SumStays w passed m k
@@ -344,7 +344,7 @@ module _ (ledger : Ledger) (s : Sound (ledger .table)) (n : ℕ) (j : Committabl
   commit-change =
       record {
         long = commit-length ledger n parent (j .own .0) ∙ s .long;
-        sameStarted = commit-started ledger n parent (j .own .0);
+        sameHighest = commit-highest ledger n parent (j .own .0);
         rising = pass-rising;
         counted = pass-counted;
         states = has-state w passed n j (inl pass-state) pass-others s;
@@ -357,7 +357,7 @@ module _ (ledger : Ledger) (s : Sound (ledger .table)) (n : ℕ) (j : Committabl
         lines =
             λ h known.
             line-stays w passed s h known (commit-line ledger n parent (j .own .0) h known)
-            (commit-started ledger n parent (j .own .0)) (λ m _. pass-parent m)
+            (commit-highest ledger n parent (j .own .0)) (λ m _. pass-parent m)
             (was-live w passed n j (inl pass-state) pass-others)
             (waiting-stays w passed n j (inl pass-state) pass-others s h known);
       }

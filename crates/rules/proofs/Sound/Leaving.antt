@@ -15,7 +15,7 @@ use Rattle.rules.specs.Table.{parentOf, isLive, hasLiveChild}
 use Rattle.rules.specs.Walk.{isAtOrBelow, isAbortedBy}
 use Rattle.rules.specs.Kind.{IsKind, topKind, subKind}
 use Rattle.rules.specs.Queue.{queueLength, Entry, entryAt, queue, isQueued, headOf, isHeadReady, keepsPlace, withoutBelow}
-use Rattle.rules.specs.Sound.{areDistinct, queueNumbers, IsStarted, Sound}
+use Rattle.rules.specs.Sound.{areDistinct, queueNumbers, IsGiven, Sound}
 use Rattle.rules.specs.Ledger.{Ledger}
 use Rattle.rules.specs.Step.{finished, Left, nobodyLeft, leaveWhile, leave, leaveBoth, headIn, headOut, isHeadOutside, headLeft, headBefore}
 use Rattle.rules.proofs.Laws.Tests.{and-left, and-both, or-cases, or-inl, or-inr, not-both, false-of-not-true}
@@ -51,17 +51,17 @@ head-queued w h ready =
 
 -- nobody live is below an action without a live child
 nobody-below :
-    {w : List ℕ} → Sound w → (n : ℕ) → hasLiveChild w n ≡ false → (m : ℕ) → IsStarted w m → isLive w m ≡ true → m ≢ n →
+    {w : List ℕ} → Sound w → (n : ℕ) → hasLiveChild w n ≡ false → (m : ℕ) → IsGiven w m → isLive w m ≡ true → m ≢ n →
     isAtOrBelow w n m ≡ false
 nobody-below {w} s n none m begun alive other =
     false-of-not-true _ (climb-holds w Below (λ h _ _ _. omega arith) further m (sound-climbs s m (begun .1)) begun alive other)
   where
     Below : ℕ → Type 0
-    Below x = IsStarted w x → isLive w x ≡ true → x ≢ n → isAtOrBelow w n x ≡ true → ⊥
+    Below x = IsGiven w x → isLive w x ≡ true → x ≢ n → isAtOrBelow w n x ≡ true → ⊥
 
     -- its parent is n, which has no live child, or is live and below n too
     by-parent :
-        (x : ℕ) → IsStarted w x → isLive w x ≡ true → isAtOrBelow w n (parentOf w x) ≡ true → Below (parentOf w x) →
+        (x : ℕ) → IsGiven w x → isLive w x ≡ true → isAtOrBelow w n (parentOf w x) ≡ true → Below (parentOf w x) →
         Dec (parentOf w x ≡ n) → Dec (parentOf w x ≡ 0) → ⊥
     by-parent x h l below above (yes under) _ = no-live-child w n none x h l under
     by-parent x h l below above (no apart) (yes top) = not-both below (ap (isAtOrBelow w n) top ∙ atOrBelow-store w n)

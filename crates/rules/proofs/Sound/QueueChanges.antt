@@ -12,10 +12,10 @@ use lib.ListN.{length, length-map, length-append}
 use borrow.Author.Tests.{eqb-true, not-true}
 use Rattle.rules.specs.Range.{any, filter}
 use Rattle.rules.specs.Kind.{IsKind, kindUnder}
-use Rattle.rules.specs.Table.{IsActionField, width, mostActions, word, startedField, started, counterField, counter, parentField, parentOf, kindOf, stateField, endField, readField, readEntry, subTimeField, subTime, writeField, pendingField, isLive, hasEnd}
+use Rattle.rules.specs.Table.{IsActionField, width, mostActions, word, highestField, highest, counterField, counter, parentField, parentOf, kindOf, stateField, endField, readField, readEntry, subTimeField, subTime, writeField, pendingField, isLive, hasEnd}
 use Rattle.rules.specs.Walk.{isAtOrBelow, isAbortedBy}
 use Rattle.rules.specs.Queue.{numberField, readyField, queueLengthField, queueLength, Entry, isOf, queue, isQueued, withQueue, newEntry, withTail, readied, withReady, keepsPlace, withoutBelow}
-use Rattle.rules.specs.Sound.{areDistinct, queueNumbers, IsStarted, MayWait, SoundQueue, Sound}
+use Rattle.rules.specs.Sound.{areDistinct, queueNumbers, IsGiven, MayWait, SoundQueue, Sound}
 use Rattle.rules.proofs.Laws.Tests.{and-left, and-right, and-both, or-cases, or-false, not-both, false-of-not-true, cond-holds}
 use Rattle.rules.proofs.Laws.Lists.{map-append, map-map, filter-map, any-map, any-append, any-filter, any-weaker, any-implies, length-filter}
 use Rattle.rules.proofs.Laws.Distinct.{distinct-filter, distinct-append, pigeonhole}
@@ -71,8 +71,8 @@ module _ (w : List ℕ) (s : Sound w) (h : ℕ) (known : IsKind h) (es : List En
   parent-kept : (m : ℕ) → parentOf given m ≡ parentOf w m
   parent-kept m = given-keeps m parentField (inl (omega arith)) (inr (λ z. omega arith))
 
-  started-kept : started given ≡ started w
-  started-kept = given-keeps 0 startedField (inl (omega arith)) (inr (λ z. omega arith))
+  highest-kept : highest given ≡ highest w
+  highest-kept = given-keeps 0 highestField (inl (omega arith)) (inr (λ z. omega arith))
 
   live-kept : (m : ℕ) → isLive given m ≡ isLive w m
   live-kept m = rw (given-keeps m stateField (inl (omega arith)) (inr (λ z. omega arith)))
@@ -81,14 +81,14 @@ module _ (w : List ℕ) (s : Sound w) (h : ℕ) (known : IsKind h) (es : List En
   pub waits-still : {x : ℕ} (n : ℕ) → MayWait w x n → MayWait given x n
   waits-still n may =
       record {
-        begun = rw started-kept (may .begun);
+        begun = rw highest-kept (may .begun);
         alive = rw (live-kept n) (may .alive);
         kind = ap kindUnder (parent-kept n) ∙ may .kind;
         childless =
-            still-childless w given n started-kept (λ m _. parent-kept m) (λ m _ l. sym (live-kept m) ∙ l) (may .childless);
+            still-childless w given n highest-kept (λ m _. parent-kept m) (λ m _ l. sym (live-kept m) ∙ l) (may .childless);
       }
 
-  end-kept : (m : ℕ) → IsStarted w m → hasEnd given m ≡ hasEnd w m
+  end-kept : (m : ℕ) → IsGiven w m → hasEnd given m ≡ hasEnd w m
   end-kept m h =
       rw (
         given-keeps m stateField (inl (omega arith)) (inr (λ z. omega arith)),
@@ -112,12 +112,12 @@ module _ (w : List ℕ) (s : Sound w) (h : ℕ) (known : IsKind h) (es : List En
       go : Dec (x ≡ h) → SoundQueue given x
       go (yes same) = rw same line
       go (no apart) =
-          quiet-line w given s x is (other-line x is apart) started-kept parent-kept
+          quiet-line w given s x is (other-line x is apart) highest-kept parent-kept
           (λ m. given-keeps m stateField (inl (omega arith)) (inr (λ z. omega arith)))
 
   pub queue-change : SoundQueue given h → (now : ℕ) → TableChange w given now
   queue-change line now =
-      quiet-change w given now s (withQueue-length h known w es) started-kept
+      quiet-change w given now s (withQueue-length h known w es) highest-kept
       counter-kept parent-kept
       (λ m. given-keeps m stateField (inl (omega arith)) (inr (λ z. omega arith)))
       reads-kept
@@ -186,7 +186,7 @@ module _ {w : List ℕ} (s : Sound w) (h : ℕ) (known : IsKind h) where
     -- there is room: those who wait are distinct actions
     longer-few : length longer ≤ mostActions
     longer-few =
-        let numbers = pigeonhole (started w) (numbersOf longer) longer-once
+        let numbers = pigeonhole (highest w) (numbersOf longer) longer-once
         (λ m listed. longer-waits m (sym (any-map (eqb m) (λ (e : Entry). e .number) longer) ∙ listed) .begun) in
         omega (arith, length-map longer (λ (e : Entry). e .number), numbers, s .few)
 

@@ -11,9 +11,9 @@ use lib.Dec.{eqb}
 use lib.ListN.{length}
 use Rattle.rules.specs.Card.{accountCount}
 use Rattle.rules.specs.Kind.{IsKind, topKind, subKind}
-use Rattle.rules.specs.Table.{hasEnd, width, committed, word, startedField, counterField, counter, parentField, stateField, stateOf, endField, readField, readEntry, withRead, subTimeField, subTime, readTime, writeField, pendingField}
+use Rattle.rules.specs.Table.{hasEnd, width, committed, word, highestField, counterField, counter, parentField, stateField, stateOf, endField, readField, readEntry, withRead, subTimeField, subTime, readTime, writeField, pendingField}
 use Rattle.rules.specs.Queue.{queueLengthField}
-use Rattle.rules.specs.Sound.{IsStarted, Sound}
+use Rattle.rules.specs.Sound.{IsGiven, Sound}
 use Rattle.rules.specs.Step.{leavesReadSet, withReadNow, readTable}
 use Rattle.rules.proofs.Laws.Words.{withWord-length, word-same, word-other-row, word-other-field, word-off-field}
 use Rattle.rules.proofs.Laws.Queue.{SameLine}
@@ -74,7 +74,7 @@ module _ (w : List ℕ) (n k : ℕ) (account : k < accountCount) where
 
   module _ (s : Sound w) where
     -- RULES 2.3
-    module _ (own : IsStarted w n) where
+    module _ (own : IsGiven w n) where
       put-entry : readEntry (withReadNow w n k) n k ≡ counter w topKind + 1
       put-entry =
           word-other-field withEntry n (subTimeField k) (readField k) _ (λ z. omega arith)
@@ -95,7 +95,7 @@ module _ (w : List ℕ) (n k : ℕ) (account : k < accountCount) where
       own-entry : OldOrNew w (readTable w n k) n k
       own-entry = read-holds (λ v. OldOrNew w v n k) (inl (refl, refl)) (inr (put-entry, put-time))
 
-    entry-after : (m j : ℕ) → IsStarted w m → j < accountCount → OldOrNew w (readTable w n k) m j
+    entry-after : (m j : ℕ) → IsGiven w m → j < accountCount → OldOrNew w (readTable w n k) m j
     entry-after m j begun hj = go (ℕ-discrete m n) (ℕ-discrete j k)
       where
         kept : (g : ℕ) → g < width → g ≢ readField k → g ≢ subTimeField k → word (readTable w n k) m g ≡ word w m g
@@ -124,17 +124,17 @@ module _ (w : List ℕ) (n k : ℕ) (account : k < accountCount) where
             rw (old .0, old .1) (s .reads h m j known begun (rw (state-kept m) at l) hj (rw (old .0) at r))
         go (inr new) = rw (new .0, new .1) (now h known)
 
-    pub read-line : IsStarted w n → (h : ℕ) → IsKind h → SameLine w (readTable w n k) h
+    pub read-line : IsGiven w n → (h : ℕ) → IsKind h → SameLine w (readTable w n k) h
     read-line own h known =
         record {
           sameLength = read-keeps-row 0 (queueLengthField h) (omega arith) (λ z. omega (arith, own));
           sameEntries = λ i g _ first last. read-keeps-field i g (omega arith) (λ z. omega arith) (λ z. omega arith);
         }
 
-    pub read-change : IsStarted w n → TableChange w (readTable w n k) n
+    pub read-change : IsGiven w n → TableChange w (readTable w n k) n
     read-change own =
         quiet-change w (readTable w n k) n s read-length
-        (read-keeps-field 0 startedField (omega arith) (λ z. omega arith) (λ z. omega arith))
+        (read-keeps-field 0 highestField (omega arith) (λ z. omega arith) (λ z. omega arith))
         counter-kept
         (λ m. read-keeps-field m parentField (omega arith) (λ z. omega arith) (λ z. omega arith))
         state-kept reads-in-time
@@ -144,5 +144,5 @@ module _ (w : List ℕ) (n k : ℕ) (account : k < accountCount) where
         (read-keeps-field m (pendingField j) (omega arith) (λ z. omega arith) (λ z. omega arith)))
         (λ h known.
         quiet-line w (readTable w n k) s h known (read-line own h known)
-        (read-keeps-field 0 startedField (omega arith) (λ z. omega arith) (λ z. omega arith))
+        (read-keeps-field 0 highestField (omega arith) (λ z. omega arith) (λ z. omega arith))
         (λ m. read-keeps-field m parentField (omega arith) (λ z. omega arith) (λ z. omega arith)) state-kept)

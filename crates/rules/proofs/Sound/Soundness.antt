@@ -11,9 +11,9 @@ use lib.ListN.{length}
 use Rattle.rules.specs.Range.{any, all, count}
 use Rattle.rules.specs.Card.{accountCount, accounts, firstCharge, chargeCount, IsCharge, chargeAccounts}
 use Rattle.rules.specs.Kind.{IsKind, kinds}
-use Rattle.rules.specs.Table.{hasEnd, tableLength, mostActions, started, counter, parentOf, kindOf, endTime, hasRead, readTime, writeEntry, hasWritten, pendingWord, isLive, actions}
+use Rattle.rules.specs.Table.{hasEnd, tableLength, mostActions, highest, counter, parentOf, kindOf, endTime, hasRead, readTime, writeEntry, hasWritten, pendingWord, isLive, actions}
 use Rattle.rules.specs.Queue.{queueLength, queue, isQueued}
-use Rattle.rules.specs.Sound.{isCommittedOf, isCounted, hasState, hasParentBelow, hasParentAlive, hasTimesIn, hasReadInTime, hasEndInTime, sharesEndTime, hasEndAlone, hasPendingWritten, isSoundAction, mayWait, queueNumbers, isSoundQueue, sound, IsStarted, MayWait, SoundQueue, Sound}
+use Rattle.rules.specs.Sound.{isCommittedOf, isCounted, hasState, hasParentBelow, hasParentAlive, hasTimesIn, hasReadInTime, hasEndInTime, sharesEndTime, hasEndAlone, hasPendingWritten, isSoundAction, mayWait, queueNumbers, isSoundQueue, sound, IsGiven, MayWait, SoundQueue, Sound}
 use Rattle.rules.proofs.Laws.Tests.{and-left, and-right, and-both, or-cases, or-inl, or-inr, test, implied, implies, not-both, false-of-not-true}
 use Rattle.rules.proofs.Laws.Ranges.{Within, all-at, all-of, count-at-most}
 use Rattle.rules.proofs.Laws.Lists.{any-map, all-listed, listed-all}
@@ -21,19 +21,19 @@ use Rattle.rules.proofs.Laws.Sets.{charge-within}
 use Rattle.rules.proofs.Laws.Kinds.{all-kinds, kinds-all}
 
 -- the started actions are the numbers of the run that the scans go over
-started-within : (w : List ℕ) (n : ℕ) → IsStarted w n → Within 1 (started w) n
-started-within w n h = omega arith
+given-within : (w : List ℕ) (n : ℕ) → IsGiven w n → Within 1 (highest w) n
+given-within w n h = omega arith
 
-within-started : (w : List ℕ) (n : ℕ) → Within 1 (started w) n → IsStarted w n
-within-started w n h = omega arith
+within-given : (w : List ℕ) (n : ℕ) → Within 1 (highest w) n → IsGiven w n
+within-given w n h = omega arith
 
-pub all-started : (w : List ℕ) (f : ℕ → Bool) → all f (actions w) ≡ true → (n : ℕ) → IsStarted w n → f n ≡ true
+pub all-given : (w : List ℕ) (f : ℕ → Bool) → all f (actions w) ≡ true → (n : ℕ) → IsGiven w n → f n ≡ true
 unfolding actions
-all-started w f p n h = all-at f 1 (started w) n p (started-within w n h)
+all-given w f p n h = all-at f 1 (highest w) n p (given-within w n h)
 
-pub started-all : (w : List ℕ) (f : ℕ → Bool) → ((n : ℕ) → IsStarted w n → f n ≡ true) → all f (actions w) ≡ true
+pub given-all : (w : List ℕ) (f : ℕ → Bool) → ((n : ℕ) → IsGiven w n → f n ≡ true) → all f (actions w) ≡ true
 unfolding actions
-started-all w f h = all-of f 1 (started w) (λ n r. h n (within-started w n r))
+given-all w f h = all-of f 1 (highest w) (λ n r. h n (within-given w n r))
 
 -- ---- the clauses that are more than one comparison, from test to fact and back
 
@@ -197,7 +197,7 @@ module _ (w : List ℕ) (h n : ℕ) where
   unfolding mayWait
   waiting-facts t =
       let first = leb 1 n in
-      let known = leb n (started w) in
+      let known = leb n (highest w) in
       let kind = eqb (kindOf w n) h in
       let t3 = and-left (first && known && isLive w n && kind) _ t in
       let t2 = and-left (first && known && isLive w n) kind t3 in
@@ -253,14 +253,14 @@ module _ (w : List ℕ) where
   unfolding sound ParentAlive ReadsInTime EndInTime EndAlone PendingWritten
   facts t =
       let long = eqb (length w) tableLength in
-      let few = leb (started w) mostActions in
+      let few = leb (highest w) mostActions in
       let counted = all (isCounted w) kinds in
       let fold = all (isSoundAction w) (actions w) in
       let t4 = and-left (long && few && counted && fold) (all (isSoundQueue w) kinds) t in
       let t3 = and-left (long && few && counted) fold t4 in
       let t2 = and-left (long && few) counted t3 in
-      let of : (n : ℕ) → IsStarted w n → SoundAction w n =
-      λ n h. action-facts w n (all-started w (isSoundAction w) (and-right (long && few && counted) fold t4) n h) in
+      let of : (n : ℕ) → IsGiven w n → SoundAction w n =
+      λ n h. action-facts w n (all-given w (isSoundAction w) (and-right (long && few && counted) fold t4) n h) in
       record {
         long = eqb-true _ _ (and-left long few t2);
         few = leb-true _ _ (and-right long few t2);
@@ -283,7 +283,7 @@ module _ (w : List ℕ) where
             (all-kinds (isSoundQueue w) (and-right (long && few && counted && fold) (all (isSoundQueue w) kinds) t) h known);
       }
 
-  tested-action : Sound w → (n : ℕ) → IsStarted w n → SoundAction w n
+  tested-action : Sound w → (n : ℕ) → IsGiven w n → SoundAction w n
   unfolding ParentAlive ReadsInTime EndInTime EndAlone PendingWritten
   tested-action s n h =
       record {
@@ -304,11 +304,11 @@ module _ (w : List ℕ) where
       (and-both
       (and-both (and-both (eq-eqb _ _ (s .long)) (le-leb _ _ (s .few)))
       (kinds-all (isCounted w) (λ h known. counted-test w h (s .counted h known))))
-      (started-all w _ (λ n h. action-tested w n (tested-action s n h))))
+      (given-all w _ (λ n h. action-tested w n (tested-action s n h))))
       (kinds-all (isSoundQueue w) (λ h known. queue-tested w h (s .lines h known)))
 
 -- ---- RULES 7.3: no counter is higher than there can be actions
 
 pub counter-at-most : (w : List ℕ) → Sound w → (h : ℕ) → IsKind h → counter w h ≤ mostActions
 unfolding actions
-counter-at-most w s h known = omega (arith, s .counted h known, count-at-most (isCommittedOf w h) 1 (started w), s .few)
+counter-at-most w s h known = omega (arith, s .counted h known, count-at-most (isCommittedOf w h) 1 (highest w), s .few)

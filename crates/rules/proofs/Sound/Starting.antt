@@ -1,4 +1,4 @@
--- A start's table: the next row is filled whole and the last start goes up by one; the table stays sound. Assumes nothing.
+-- A start's table: the next row is filled whole and the highest number goes up by one; the table stays sound. Assumes nothing.
 use Prim.Native.Nat.{ℕ, _+_, _≤_, _<_}
 use native.Mathlib.Omega.{arith}
 use native.Mathlib.Decide.{ℕ-discrete}
@@ -13,9 +13,9 @@ use lib.ListN.{length}
 use Rattle.rules.specs.Range.{count}
 use Rattle.rules.specs.Card.{accountCount, IsCharge}
 use Rattle.rules.specs.Kind.{IsKind, kindUnder}
-use Rattle.rules.specs.Table.{hasEnd, entryFields, subTimeFields, subTimeField, subTime, width, tableLength, mostActions, live, word, startedField, started, withStarted, counterField, counter, parentField, parentOf, kindOf, withParent, stateField, stateOf, withState, endField, endTime, withEndTime, readField, readEntry, writeField, writeEntry, hasRead, readTime, hasWritten, pendingField, pendingWord, ownAddsField, ownAddsWord, withoutAdds, isLive, isCommitted, actions, isLiveChildOf, hasLiveChild}
+use Rattle.rules.specs.Table.{hasEnd, entryFields, subTimeFields, subTimeField, subTime, width, tableLength, mostActions, live, word, highestField, highest, withHighest, counterField, counter, parentField, parentOf, kindOf, withParent, stateField, stateOf, withState, endField, endTime, withEndTime, readField, readEntry, writeField, writeEntry, hasRead, readTime, hasWritten, pendingField, pendingWord, ownAddsField, ownAddsWord, withoutAdds, isLive, isCommitted, actions, isLiveChildOf, hasLiveChild}
 use Rattle.rules.specs.Queue.{queueLengthField, isQueued, isWaiting}
-use Rattle.rules.specs.Sound.{isCommittedOf, queueNumbers, IsStarted, MayWait, SoundQueue, Sound}
+use Rattle.rules.specs.Sound.{isCommittedOf, queueNumbers, IsGiven, MayWait, SoundQueue, Sound}
 use Rattle.rules.specs.Step.{startTable}
 use Rattle.rules.proofs.Laws.Walking.{parent-known}
 use Rattle.rules.proofs.Laws.Tests.{and-left, and-fails-left, not-both}
@@ -29,12 +29,12 @@ use Rattle.rules.proofs.Sound.TableChanges.{writes-agree, live-uncommit
 module _ (w : List ℕ) (p : ℕ) where
   -- the number that the new action gets
   abbrev pub new : ℕ
-  new = started w + 1
+  new = highest w + 1
 
   -- the table with the head, then the parent, then the state, then the end time put in, and the own adds; the sets and sums
   -- come last
   abbrev headed : List ℕ
-  headed = withStarted w new
+  headed = withHighest w new
 
   abbrev parented : List ℕ
   parented = withParent headed new p
@@ -50,7 +50,7 @@ module _ (w : List ℕ) (p : ℕ) where
 
   filled-length : length filled ≡ length w
   filled-length =
-      withoutAdds-length timed new ∙ withWord-length stated new endField 0 ∙ withWord-length parented new stateField live ∙ withWord-length headed new parentField p ∙ withWord-length w 0 startedField new
+      withoutAdds-length timed new ∙ withWord-length stated new endField 0 ∙ withWord-length parented new stateField live ∙ withWord-length headed new parentField p ∙ withWord-length w 0 highestField new
 
   pub start-length : length (startTable w p) ≡ length w
   unfolding startTable
@@ -65,7 +65,7 @@ module _ (w : List ℕ) (p : ℕ) where
       ∙ word-other-row stated new m endField g 0 (omega arith) h ne
       ∙ word-other-row parented new m stateField g live (omega arith) h ne
       ∙ word-other-row headed new m parentField g p (omega arith) h ne
-      ∙ word-other-row w 0 m startedField g new (omega arith) h (λ z. omega arith)
+      ∙ word-other-row w 0 m highestField g new (omega arith) h (λ z. omega arith)
 
   -- the head
   head-from : (g : ℕ) → g < width → word (startTable w p) 0 g ≡ word headed 0 g
@@ -77,8 +77,8 @@ module _ (w : List ℕ) (p : ℕ) where
       ∙ word-other-row parented new 0 stateField g live (omega arith) h (λ z. omega arith)
       ∙ word-other-row headed new 0 parentField g p (omega arith) h (λ z. omega arith)
 
-  start-head : (g : ℕ) → g < width → g ≢ startedField → word (startTable w p) 0 g ≡ word w 0 g
-  start-head g h ne = head-from g h ∙ word-other-field w 0 startedField g new ne
+  start-head : (g : ℕ) → g < width → g ≢ highestField → word (startTable w p) 0 g ≡ word w 0 g
+  start-head g h ne = head-from g h ∙ word-other-field w 0 highestField g new ne
 
   pub start-counter : (h : ℕ) → IsKind h → counter (startTable w p) h ≡ counter w h
   start-counter h known = start-head (counterField h) (omega arith) (λ z. omega arith)
@@ -97,7 +97,7 @@ module _ (w : List ℕ) (p : ℕ) where
           ∙ word-other-field stated new endField g 0 (λ z. omega arith)
           ∙ word-other-field parented new stateField g live (λ z. omega arith)
           ∙ word-other-field headed new parentField g p (λ z. omega arith)
-          ∙ word-other-row w 0 new startedField g new (omega arith) (omega arith) (λ z. omega arith))
+          ∙ word-other-row w 0 new highestField g new (omega arith) (omega arith) (λ z. omega arith))
 
   pub start-line : (h : ℕ) → IsKind h → SameLine w (startTable w p) h
   start-line h known =
@@ -106,12 +106,12 @@ module _ (w : List ℕ) (p : ℕ) where
         sameEntries = λ i g one first last. start-behind i g one (omega arith) (omega arith);
       }
 
-  module _ (long : length w ≡ tableLength) (room : started w < mostActions) where
-    pub start-started : started (startTable w p) ≡ started w + 1
-    start-started = head-from startedField (omega arith) ∙ word-same w 0 startedField new long (omega arith) (omega arith)
+  module _ (long : length w ≡ tableLength) (room : highest w < mostActions) where
+    pub start-highest : highest (startTable w p) ≡ highest w + 1
+    start-highest = head-from highestField (omega arith) ∙ word-same w 0 highestField new long (omega arith) (omega arith)
 
     headed-long : length headed ≡ tableLength
-    headed-long = withWord-length w 0 startedField new ∙ long
+    headed-long = withWord-length w 0 highestField new ∙ long
 
     parented-long : length parented ≡ tableLength
     parented-long = withWord-length headed new parentField p ∙ headed-long
@@ -172,21 +172,21 @@ module _ (w : List ℕ) (p : ℕ) where
 -- ---- the table stays sound
 
 module _
-    (w : List ℕ) (p : ℕ) (s : Sound w) (room : started w < mostActions) (known : p ≤ started w) (alive : 1 ≤ p → isLive w p ≡ true)
+    (w : List ℕ) (p : ℕ) (s : Sound w) (room : highest w < mostActions) (known : p ≤ highest w) (alive : 1 ≤ p → isLive w p ≡ true)
     (unqueued : isWaiting w p ≡ false) where
   -- a started action of the new table is one of the old, or the new one
-  old-or-new : (m : ℕ) → IsStarted (startTable w p) m → IsStarted w m ⊎ (m ≡ new w p)
-  old-or-new m h = go (ℕ-discrete m (started w + 1))
+  old-or-new : (m : ℕ) → IsGiven (startTable w p) m → IsGiven w m ⊎ (m ≡ new w p)
+  old-or-new m h = go (ℕ-discrete m (highest w + 1))
     where
-      go : Dec (m ≡ started w + 1) → IsStarted w m ⊎ (m ≡ new w p)
+      go : Dec (m ≡ highest w + 1) → IsGiven w m ⊎ (m ≡ new w p)
       go (yes e) = inr e
-      go (no ne) = inl (omega (arith, start-started w p (s .long) room))
+      go (no ne) = inl (omega (arith, start-highest w p (s .long) room))
 
   -- what an old action's row holds
-  pub old-row : (m g : ℕ) → IsStarted w m → g < width → word (startTable w p) m g ≡ word w m g
+  pub old-row : (m g : ℕ) → IsGiven w m → g < width → word (startTable w p) m g ≡ word w m g
   old-row m g h hg = start-keeps-row w p m g hg (h .0) (λ z. omega arith)
 
-  old-end : (m : ℕ) → IsStarted w m → hasEnd (startTable w p) m ≡ hasEnd w m
+  old-end : (m : ℕ) → IsGiven w m → hasEnd (startTable w p) m ≡ hasEnd w m
   old-end m h =
       rw (old-row m stateField h (omega arith), writes-agree w (startTable w p) m (λ k hk. old-row m (writeField k) h (omega arith))) refl
 
@@ -198,7 +198,7 @@ module _
 
   -- a test that holds of every old action and of the new one holds of every action
   pub by-age :
-      (P : ℕ → Type 0) → ((m : ℕ) → IsStarted w m → P m) → P (new w p) → (m : ℕ) → IsStarted (startTable w p) m → P m
+      (P : ℕ → Type 0) → ((m : ℕ) → IsGiven w m → P m) → P (new w p) → (m : ℕ) → IsGiven (startTable w p) m → P m
   by-age P old fresh m h = ⊎-elim (old m) (λ e. rw e fresh) (old-or-new m h)
 
   no-fewer-committed :
@@ -206,17 +206,17 @@ module _
   unfolding actions
   no-fewer-committed h kind =
       rw (
-        start-started w p (s .long) room,
-        add-one (started w),
-        count-snoc (isCommittedOf (startTable w p) h) 1 (started w),
-        count-agree (isCommittedOf (startTable w p) h) (isCommittedOf w h) 1 (started w)
+        start-highest w p (s .long) room,
+        add-one (highest w),
+        count-snoc (isCommittedOf (startTable w p) h) 1 (highest w),
+        count-agree (isCommittedOf (startTable w p) h) (isCommittedOf w h) 1 (highest w)
             (λ m r.
             rw (old-row m stateField (omega arith) (omega arith), old-row m parentField (omega arith) (omega arith)) refl),
       )
       (omega (arith, s .counted h kind))
 
   -- a parent that was 0 or live still is
-  parent-alive : (q : ℕ) → q ≤ started w → (q ≡ 0) ⊎ (isLive w q ≡ true) → (q ≡ 0) ⊎ (isLive (startTable w p) q ≡ true)
+  parent-alive : (q : ℕ) → q ≤ highest w → (q ≡ 0) ⊎ (isLive w q ≡ true) → (q ≡ 0) ⊎ (isLive (startTable w p) q ≡ true)
   parent-alive q known (inl e) = inl e
   parent-alive q known (inr l) = go (ℕ-discrete q 0)
     where
@@ -231,12 +231,12 @@ module _
   waiting-childless : (h : ℕ) → IsKind h → (n : ℕ) → isQueued w h n ≡ true → hasLiveChild (startTable w p) n ≡ false
   unfolding hasLiveChild actions
   waiting-childless h kind n queued =
-      not-any (isLiveChildOf (startTable w p) n) 1 (started (startTable w p))
+      not-any (isLiveChildOf (startTable w p) n) 1 (highest (startTable w p))
       (λ m r.
       by-age (λ x. isLiveChildOf (startTable w p) n x ≡ false)
       (λ x begun.
       rw (old-row x parentField begun (omega arith), old-row x stateField begun (omega arith))
-      (not-any-at (isLiveChildOf w n) 1 (started w) x (s .lines h kind .waits n queued .childless) (omega arith)))
+      (not-any-at (isLiveChildOf w n) 1 (highest w) x (s .lines h kind .waits n queued .childless) (omega arith)))
       (rw (start-parent w p (s .long) room)
       (and-fails-left (eqb p n) _ .1 (λ _. ne-eqb p n (λ same. not-both queued (rw (← same) (unqueued-in w p unqueued h kind))))))
       m (omega arith))
@@ -245,7 +245,7 @@ module _
   waits-on h kind n queued =
       let may = s .lines h kind .waits n queued in
       record {
-        begun = omega (arith, may .begun, start-started w p (s .long) room);
+        begun = omega (arith, may .begun, start-highest w p (s .long) room);
         alive = rw (old-row n stateField (may .begun) (omega arith)) (may .alive);
         kind = ap kindUnder (old-row n parentField (may .begun) (omega arith)) ∙ may .kind;
         childless = waiting-childless h kind n queued;
@@ -265,7 +265,7 @@ module _
   start-keeps-sound =
       record {
         long = start-length w p ∙ s .long;
-        few = rw (start-started w p (s .long) room) (omega arith);
+        few = rw (start-highest w p (s .long) room) (omega arith);
         states =
             by-age _ (λ m h. rw (old-row m stateField h (omega arith)) (s .states m h)) (rw (start-state w p (s .long) room) refl);
         counted = λ h kind. rw (start-counter w p h kind) (no-fewer-committed h kind);
@@ -312,7 +312,7 @@ module _
       store-or-live (no ne) = inr (alive (omega arith))
 
       ends-alone :
-          (n m : ℕ) → IsStarted (startTable w p) n → IsStarted (startTable w p) m → hasEnd (startTable w p) n ≡ true →
+          (n m : ℕ) → IsGiven (startTable w p) n → IsGiven (startTable w p) m → hasEnd (startTable w p) n ≡ true →
           hasEnd (startTable w p) m ≡ true → parentOf (startTable w p) m ≡ parentOf (startTable w p) n →
           endTime (startTable w p) m ≡ endTime (startTable w p) n → m ≡ n
       ends-alone n m hn hm en em parents ends =

@@ -14,9 +14,9 @@ use lib.ListN.{length}
 use Rattle.rules.specs.Range.{count}
 use Rattle.rules.specs.Card.{accountCount, accounts, IsCharge}
 use Rattle.rules.specs.Kind.{IsKind, kindUnder}
-use Rattle.rules.specs.Table.{hasEnd, tableLength, entryFields, width, live, committed, word, writeFields, startedField, counterField, parentField, stateField, endField, readField, readEntry, subTimeField, subTime, writeField, writeEntry, entered, hasWritten, hasWrites, pendingField, pendingWord, started, counter, parentOf, kindOf, stateOf, endTime, hasRead, readTime, isLive, isCommitted, actions, isChildOf, isLiveChildOf, hasLiveChild}
+use Rattle.rules.specs.Table.{hasEnd, tableLength, entryFields, width, live, committed, word, writeFields, highestField, counterField, parentField, stateField, endField, readField, readEntry, subTimeField, subTime, writeField, writeEntry, entered, hasWritten, hasWrites, pendingField, pendingWord, highest, counter, parentOf, kindOf, stateOf, endTime, hasRead, readTime, isLive, isCommitted, actions, isChildOf, isLiveChildOf, hasLiveChild}
 use Rattle.rules.specs.Queue.{queueLengthField, isQueued}
-use Rattle.rules.specs.Sound.{isCommittedOf, hasState, queueNumbers, IsStarted, SoundQueue, Sound}
+use Rattle.rules.specs.Sound.{isCommittedOf, hasState, queueNumbers, IsGiven, SoundQueue, Sound}
 use Rattle.rules.proofs.Laws.Tests.{and-left, and-right, and-both, not-both, false-of-not-true}
 use Rattle.rules.proofs.Laws.Ranges.{not-any, not-any-at, any-agree}
 use Rattle.rules.proofs.Laws.Kinds.{kind-known}
@@ -54,31 +54,31 @@ sum-stays w v m k entry sum none = (rw entry at none, sum)
 -- The reads of those who are live in v, of which w says who they are: no time of either kind is above that kind's counter.
 abbrev pub ReadsInTime : List ℕ → List ℕ → Type 0
 ReadsInTime w v =
-    (h m k : ℕ) → IsKind h → IsStarted w m → isLive v m ≡ true → k < accountCount → hasRead v m k ≡ true →
+    (h m k : ℕ) → IsKind h → IsGiven w m → isLive v m ≡ true → k < accountCount → hasRead v m k ≡ true →
     readTime v h m k ≤ counter v h
 
 -- The table v, after an event at table w in which action `now` may have ended.
 pub record TableChange (w v : List ℕ) (now : ℕ) : Type 0 where
   pub long : length v ≡ tableLength
-  pub sameStarted : started v ≡ started w
+  pub sameHighest : highest v ≡ highest w
   pub rising : (h : ℕ) → IsKind h → counter w h ≤ counter v h
   pub counted : (h : ℕ) → IsKind h → counter v h ≤ count (isCommittedOf v h) (actions v)
-  pub states : (m : ℕ) → IsStarted w m → hasState v m ≡ true
-  pub parents : (m : ℕ) → IsStarted w m → parentOf v m ≡ parentOf w m
+  pub states : (m : ℕ) → IsGiven w m → hasState v m ≡ true
+  pub parents : (m : ℕ) → IsGiven w m → parentOf v m ≡ parentOf w m
   -- nothing becomes live, and a parent that was live stays so while a child does
-  pub wasLive : (m : ℕ) → IsStarted w m → isLive v m ≡ true → isLive w m ≡ true
-  pub parentStays : (m : ℕ) → IsStarted w m → isLive v m ≡ true → isLive w (parentOf w m) ≡ true → 1 ≤ parentOf w m → isLive v (parentOf w m) ≡ true
+  pub wasLive : (m : ℕ) → IsGiven w m → isLive v m ≡ true → isLive w m ≡ true
+  pub parentStays : (m : ℕ) → IsGiven w m → isLive v m ≡ true → isLive w (parentOf w m) ≡ true → 1 ≤ parentOf w m → isLive v (parentOf w m) ≡ true
   pub reads : ReadsInTime w v
-  pub ends : (m : ℕ) → IsStarted w m → hasEnd v m ≡ true → Ended w v now m
-  pub pendings : (m k : ℕ) → IsStarted w m → IsCharge k → SumStays w v m k
+  pub ends : (m : ℕ) → IsGiven w m → hasEnd v m ≡ true → Ended w v now m
+  pub pendings : (m k : ℕ) → IsGiven w m → IsCharge k → SumStays w v m k
   pub lines : (h : ℕ) → IsKind h → SoundQueue v h
 
 module _ (w v : List ℕ) (now : ℕ) (s : Sound w) (c : TableChange w v now) where
   -- the started actions are the same
-  before : (m : ℕ) → IsStarted v m → IsStarted w m
-  before m h = (h .0, rw (c .sameStarted) at (h .1))
+  before : (m : ℕ) → IsGiven v m → IsGiven w m
+  before m h = (h .0, rw (c .sameHighest) at (h .1))
 
-  parent-alive : (m : ℕ) → IsStarted v m → isLive v m ≡ true → (parentOf v m ≡ 0) ⊎ (isLive v (parentOf v m) ≡ true)
+  parent-alive : (m : ℕ) → IsGiven v m → isLive v m ≡ true → (parentOf v m ≡ 0) ⊎ (isLive v (parentOf v m) ≡ true)
   parent-alive m h l =
       rw (c .parents m (before m h))
       (⊎-elim inl (λ q. go q (ℕ-discrete (parentOf w m) 0)) (s .alive m (before m h) (c .wasLive m (before m h) l)))
@@ -87,7 +87,7 @@ module _ (w v : List ℕ) (now : ℕ) (s : Sound w) (c : TableChange w v now) wh
       go q (yes e) = inl e
       go q (no ne) = inr (c .parentStays m (before m h) l q (omega arith))
 
-  end-in-time : (m : ℕ) → IsStarted v m → hasEnd v m ≡ true → (1 ≤ endTime v m) × (endTime v m ≤ counter v (kindOf v m))
+  end-in-time : (m : ℕ) → IsGiven v m → hasEnd v m ≡ true → (1 ≤ endTime v m) × (endTime v m ≤ counter v (kindOf v m))
   end-in-time m h e =
       rw (c .parents m (before m h))
       (⊎-elim
@@ -97,7 +97,7 @@ module _ (w v : List ℕ) (now : ℕ) (s : Sound w) (c : TableChange w v now) wh
 
   -- two ends with one time under one parent are one: an old time is at most the old counter, the new one above it
   end-alone :
-      (n m : ℕ) → IsStarted v n → IsStarted v m → hasEnd v n ≡ true → hasEnd v m ≡ true → parentOf v m ≡ parentOf v n → endTime v m ≡ endTime v n → m ≡ n
+      (n m : ℕ) → IsGiven v n → IsGiven v m → hasEnd v n ≡ true → hasEnd v m ≡ true → parentOf v m ≡ parentOf v n → endTime v m ≡ endTime v n → m ≡ n
   end-alone n m hn hm en em parents ends = go (c .ends n (before n hn) en) (c .ends m (before m hm) em)
     where
       under : parentOf w m ≡ parentOf w n
@@ -112,7 +112,7 @@ module _ (w v : List ℕ) (now : ℕ) (s : Sound w) (c : TableChange w v now) wh
           absurd (omega (arith, rw under at (s .ends m (before m hm) (b .0)), b .1, a .1, a .2))
       go (inr a) (inr b) = b .0 ∙ sym (a .0)
 
-  pending-written : (m k : ℕ) → IsStarted v m → IsCharge k → hasWritten v m k ≡ false → pendingWord v m k ≡ 0
+  pending-written : (m k : ℕ) → IsGiven v m → IsCharge k → hasWritten v m k ≡ false → pendingWord v m k ≡ 0
   pending-written m k h charge none =
       let was = c .pendings m k (before m h) charge none in was .1 ∙ s .pendings m k (before m h) charge (was .0)
 
@@ -120,7 +120,7 @@ module _ (w v : List ℕ) (now : ℕ) (s : Sound w) (c : TableChange w v now) wh
   change-keeps-sound =
       record {
         long = c .long;
-        few = rw (c .sameStarted) (s .few);
+        few = rw (c .sameHighest) (s .few);
         states = λ m h. c .states m (before m h);
         counted = c .counted;
         below = λ m h. rw (c .parents m (before m h)) (s .below m (before m h));
@@ -136,26 +136,26 @@ module _ (w v : List ℕ) (now : ℕ) (s : Sound w) (c : TableChange w v now) wh
 
 -- nobody gets a live child where nobody becomes live and parents stay
 pub still-childless :
-    (w v : List ℕ) (n : ℕ) → started v ≡ started w → ((m : ℕ) → IsStarted w m → parentOf v m ≡ parentOf w m) →
-    ((m : ℕ) → IsStarted w m → isLive v m ≡ true → isLive w m ≡ true) → hasLiveChild w n ≡ false → hasLiveChild v n ≡ false
+    (w v : List ℕ) (n : ℕ) → highest v ≡ highest w → ((m : ℕ) → IsGiven w m → parentOf v m ≡ parentOf w m) →
+    ((m : ℕ) → IsGiven w m → isLive v m ≡ true → isLive w m ≡ true) → hasLiveChild w n ≡ false → hasLiveChild v n ≡ false
 unfolding hasLiveChild actions
 still-childless w v n same parents wasLive none =
     rw same
-    (not-any (isLiveChildOf v n) 1 (started w)
+    (not-any (isLiveChildOf v n) 1 (highest w)
     (λ m r.
-    let begun : IsStarted w m = omega arith in
+    let begun : IsGiven w m = omega arith in
     false-of-not-true _
     (λ child.
     let under = and-left (isChildOf v n m) (isLive v m) child in
     let alive = and-right (isChildOf v n m) (isLive v m) child in
     not-both (and-both (rw (parents m begun) at under) (wasLive m begun alive))
-    (not-any-at (isLiveChildOf w n) 1 (started w) m none r))))
+    (not-any-at (isLiveChildOf w n) 1 (highest w) m none r))))
 
 -- a queue that stays is sound where those who wait stay live
 pub line-stays :
-    (w v : List ℕ) → Sound w → (h : ℕ) → IsKind h → SameLine w v h → started v ≡ started w →
-    ((m : ℕ) → IsStarted w m → parentOf v m ≡ parentOf w m) →
-    ((m : ℕ) → IsStarted w m → isLive v m ≡ true → isLive w m ≡ true) →
+    (w v : List ℕ) → Sound w → (h : ℕ) → IsKind h → SameLine w v h → highest v ≡ highest w →
+    ((m : ℕ) → IsGiven w m → parentOf v m ≡ parentOf w m) →
+    ((m : ℕ) → IsGiven w m → isLive v m ≡ true → isLive w m ≡ true) →
     ((m : ℕ) → isQueued w h m ≡ true → isLive v m ≡ true) → SoundQueue v h
 unfolding isQueued queueNumbers
 line-stays w v s h known same starts parents wasLive stay =
@@ -176,7 +176,7 @@ line-stays w v s h known same starts parents wasLive stay =
 
 -- .. so where no state changes
 pub quiet-line :
-    (w v : List ℕ) → Sound w → (h : ℕ) → IsKind h → SameLine w v h → started v ≡ started w →
+    (w v : List ℕ) → Sound w → (h : ℕ) → IsKind h → SameLine w v h → highest v ≡ highest w →
     ((m : ℕ) → parentOf v m ≡ parentOf w m) → ((m : ℕ) → stateOf v m ≡ stateOf w m) → SoundQueue v h
 quiet-line w v s h known same starts parents states =
     line-stays w v s h known same starts (λ m _. parents m) (λ m _ l. rw (states m) at l)
@@ -184,17 +184,17 @@ quiet-line w v s h known same starts parents states =
 
 -- A change that leaves the head, the parents and the states as they were.
 pub quiet-change :
-    (w v : List ℕ) (now : ℕ) → Sound w → length v ≡ length w → started v ≡ started w →
+    (w v : List ℕ) (now : ℕ) → Sound w → length v ≡ length w → highest v ≡ highest w →
     ((h : ℕ) → IsKind h → counter v h ≡ counter w h) →
     ((m : ℕ) → parentOf v m ≡ parentOf w m) → ((m : ℕ) → stateOf v m ≡ stateOf w m) → ReadsInTime w v →
-    ((m : ℕ) → IsStarted w m → hasEnd v m ≡ true → Ended w v now m) →
-    ((m k : ℕ) → IsStarted w m → IsCharge k → SumStays w v m k) → ((h : ℕ) → IsKind h → SoundQueue v h) →
+    ((m : ℕ) → IsGiven w m → hasEnd v m ≡ true → Ended w v now m) →
+    ((m k : ℕ) → IsGiven w m → IsCharge k → SumStays w v m k) → ((h : ℕ) → IsKind h → SoundQueue v h) →
     TableChange w v now
 unfolding actions
 quiet-change w v now s len start counters parents states reads ends pendings lines =
     record {
       long = len ∙ s .long;
-      sameStarted = start;
+      sameHighest = start;
       rising = λ h known. le-of-eq (sym (counters h known));
       counted = λ h known. rw (counters h known, start, committed-kept h) (s .counted h known);
       states = λ m h. rw (states m) (s .states m h);
@@ -254,7 +254,7 @@ module _
   pub entering-change : TableChange w v n
   entering-change =
       quiet-change w v n s len
-      (fields 0 startedField (omega arith)) (λ h known. fields 0 (counterField h) (omega arith))
+      (fields 0 highestField (omega arith)) (λ h known. fields 0 (counterField h) (omega arith))
       (λ m. fields m parentField (omega arith)) state-kept reads-kept
       (λ m h. end-kept m)
       (λ m j h. sums-stay m j)
@@ -264,4 +264,4 @@ module _
         sameLength = fields 0 (queueLengthField h) (omega arith);
         sameEntries = λ i g _ first last. behind i g (omega arith) (omega arith);
       })
-      (fields 0 startedField (omega arith)) (λ m. fields m parentField (omega arith)) state-kept)
+      (fields 0 highestField (omega arith)) (λ m. fields m parentField (omega arith)) state-kept)

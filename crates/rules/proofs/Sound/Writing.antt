@@ -8,12 +8,12 @@ use mathlib.Core.List.{List}
 use lib.ListN.{length}
 use Rattle.rules.specs.Card.{accountCount}
 use Rattle.rules.specs.Table.{width, word, writeField, writeEntry, entered, pendingField, isLive}
-use Rattle.rules.specs.Sound.{IsStarted, Sound}
+use Rattle.rules.specs.Sound.{IsGiven, Sound}
 use Rattle.rules.specs.Step.{writeTable}
 use Rattle.rules.proofs.Laws.Words.{withWord-length, word-same, word-off-field, word-other-row}
 use Rattle.rules.proofs.Sound.TableChanges.{TableChange, entering-change}
 
-module _ (w : List ℕ) (s : Sound w) (n k : ℕ) (own : IsStarted w n) (alive : isLive w n ≡ true) (account : k < accountCount) where
+module _ (w : List ℕ) (s : Sound w) (n k : ℕ) (own : IsGiven w n) (alive : isLive w n ≡ true) (account : k < accountCount) where
   pub write-length : length (writeTable w n k) ≡ length w
   unfolding writeTable
   write-length = withWord-length w n _ _

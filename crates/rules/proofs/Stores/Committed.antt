@@ -12,7 +12,7 @@ use borrow.Author.Tests.{leb-false, ltb-false, eq-eqb, ne-eqb}
 use Rattle.rules.specs.Range.{any}
 use Rattle.rules.specs.Card.{accountCount, accounts, isCharge, cardLength, basePlace, shadowPlace}
 use Rattle.rules.specs.Table.{parentOf, writeField, writeEntry, hasWritten, hasCard}
-use Rattle.rules.specs.Sound.{IsStarted, Sound}
+use Rattle.rules.specs.Sound.{IsGiven, Sound}
 use Rattle.rules.specs.Ledger.{Ledger}
 use Rattle.rules.specs.Commit.{copyOne, copiedDown, committedUnder}
 use Rattle.rules.specs.Touch.{isAmong, settledLength, isSettled, isCopied, isJoined}
@@ -81,7 +81,7 @@ module _ {s : Ledger} {n p : ℕ} (can : CanCopy s n p) (k : ℕ) (account : k <
 
 -- ---- all turns
 
-module _ (s : Ledger) (sound : Sound (s .table)) (fits : LedgerFits s) (n : ℕ) (begun : IsStarted (s .table) n) where
+module _ (s : Ledger) (sound : Sound (s .table)) (fits : LedgerFits s) (n : ℕ) (begun : IsGiven (s .table) n) where
   abbrev parent : ℕ
   parent = parentOf (s .table) n
 

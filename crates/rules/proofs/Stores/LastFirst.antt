@@ -4,7 +4,7 @@ use Prim.Native.Nat.{ℕ, _≤_}
 use mathlib.Core.Path.{sym, _∙_}
 use Rattle.rules.specs.Card.{accountCount, StoresFit}
 use Rattle.rules.specs.Table.{parentOf}
-use Rattle.rules.specs.Sound.{IsStarted, Sound}
+use Rattle.rules.specs.Sound.{IsGiven, Sound}
 use Rattle.rules.specs.Ledger.{Ledger}
 use Rattle.rules.specs.Commit.{committedUnder}
 use Rattle.rules.specs.LastFirst.{LastFirst, CopiesLastFirst, CopiesTellNoOrder}
@@ -14,7 +14,7 @@ use Rattle.rules.proofs.Copies.EitherOrder.{either-order}
 use Rattle.rules.proofs.Sound.Committing.{commit-sum-copied}
 
 module _
-    (s : Ledger) (sound : Sound (s .table)) (fits : StoresFit (s .base) (s .shadow)) (n : ℕ) (begun : IsStarted (s .table) n)
+    (s : Ledger) (sound : Sound (s .table)) (fits : StoresFit (s .base) (s .shadow)) (n : ℕ) (begun : IsGiven (s .table) n)
     (k : ℕ) (few : k ≤ accountCount) where
   abbrev p : ℕ
   p = parentOf (s .table) n

@@ -16,7 +16,7 @@ use Rattle.rules.specs.Cause.{areOutside, storeCauses, earlyCauses, late
 use Rattle.rules.specs.Nearest.{nearest, version}
 use Rattle.rules.specs.Look.{Looked, lookCause, Part, emptyPart, lookAt, look, bytesIn, lookedCard}
 use Rattle.rules.proofs.Laws.Tests.{cond-holds}
-use Rattle.rules.proofs.Laws.Walking.{sound-climbs, movesToStore, nearest-started}
+use Rattle.rules.proofs.Laws.Walking.{sound-climbs, movesToStore, nearest-given}
 use Rattle.rules.proofs.Laws.Charges.{nearest-charge, movesUp-charge}
 use Rattle.rules.proofs.Sound.Soundness.{facts}
 use Rattle.rules.proofs.Laws.Allowed.{Allowed, allowed}
@@ -57,7 +57,7 @@ pub look-inside :
 look-inside w base shadow n k h =
     let a = read-allowed w base shadow n k h in
     let sound = facts w (a .soundTest) in
-    let few : nearest w n k ≤ mostActions = omega (arith, nearest-started w sound n k (a .early .numberKnown), a .early .numberKnown, sound .few) in
+    let few : nearest w n k ≤ mostActions = omega (arith, nearest-given w sound n k (a .early .numberKnown), a .early .numberKnown, sound .few) in
     let inBaseStore = line-fits (base-line base (a .baseFits)) k (a .early .accountKnown refl) in
     let inShadowStore = line-fits (shadow-line shadow (nearest w n k) (a .shadowFits) few) k (a .early .accountKnown refl) in
     rw (look-given w base shadow n k h)

@@ -9,7 +9,7 @@ use lib.Dec.{eqb}
 use lib.IntN.{ℤ}
 use Rattle.rules.specs.Card.{IsCharge}
 use Rattle.rules.specs.Amount.{amountOf, amountIn}
-use Rattle.rules.specs.Table.{width, committed, word, startedField, parentField, stateField, writeField, pendingField, ownAddsField}
+use Rattle.rules.specs.Table.{width, committed, word, highestField, parentField, stateField, writeField, pendingField, ownAddsField}
 use Rattle.rules.specs.Sound.{Sound}
 use Rattle.rules.specs.Step.{addTable}
 use Rattle.rules.proofs.Laws.Amounts.{amount-read-back}
@@ -57,7 +57,7 @@ module _
   pub add-quiet : Quiet w v k
   add-quiet =
       record {
-        starts = kept-field 0 startedField (omega arith) (λ z. omega arith) (λ z. omega arith);
+        starts = kept-field 0 highestField (omega arith) (λ z. omega arith) (λ z. omega arith);
         parents = λ m h. kept-field m parentField (omega arith) (λ z. omega arith) (λ z. omega arith);
         states = λ m h. ap (λ y. eqb y committed) (kept-field m stateField (omega arith) (λ z. omega arith) (λ z. omega arith));
         settled =

@@ -7,8 +7,8 @@ use mathlib.Core.Bool.{Bool, true, false, cond}
 use mathlib.Core.List.{List}
 use lib.IntN.{ℤ, pos}
 use borrow.Author.Tests.{eqb-true, eq-eqb, ne-eqb}
-use Rattle.rules.specs.Table.{started, parentOf, isCommitted, actions, isChildOf}
-use Rattle.rules.specs.Sound.{IsStarted}
+use Rattle.rules.specs.Table.{highest, parentOf, isCommitted, actions, isChildOf}
+use Rattle.rules.specs.Sound.{IsGiven}
 use Rattle.rules.specs.Tree.{children, committedChildren, addedUp}
 use Rattle.rules.proofs.Laws.Tests.{cond-same}
 use Rattle.rules.proofs.Tree.Sums.{addedUp-filter, addedUp-agree}
@@ -49,18 +49,18 @@ brings-same w v f g p m parent state sum =
 
 -- where all actions bring p the same, they bring it the same together
 pub same-brought :
-    (w v : List ℕ) (f g : ℕ → ℤ) (p : ℕ) → started v ≡ started w →
-    ((m : ℕ) → IsStarted w m → brought v g p m ≡ brought w f p m) →
+    (w v : List ℕ) (f g : ℕ → ℤ) (p : ℕ) → highest v ≡ highest w →
+    ((m : ℕ) → IsGiven w m → brought v g p m ≡ brought w f p m) →
     addedUp g (committedChildren v p) ≡ addedUp f (committedChildren w p)
 unfolding actions
 same-brought w v f g p starts same =
     all-brought v g p
-    ∙ rw starts (addedUp-agree _ _ 1 (started w) (λ m h. same m (omega arith)))
+    ∙ rw starts (addedUp-agree _ _ 1 (highest w) (λ m h. same m (omega arith)))
     ∙ sym (all-brought w f p)
 
 -- in one table: where f and g agree on the committed children of p
 pub committed-agree :
     (w : List ℕ) (f g : ℕ → ℤ) (p : ℕ) →
-    ((m : ℕ) → IsStarted w m → parentOf w m ≡ p → isCommitted w m ≡ true → g m ≡ f m) →
+    ((m : ℕ) → IsGiven w m → parentOf w m ≡ p → isCommitted w m ≡ true → g m ≡ f m) →
     addedUp g (committedChildren w p) ≡ addedUp f (committedChildren w p)
 committed-agree w f g p same = same-brought w w f g p refl (λ m h. brings-same w w f g p m refl refl (same m h))

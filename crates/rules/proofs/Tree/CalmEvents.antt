@@ -8,9 +8,9 @@ use mathlib.Core.List.{List}
 use lib.Dec.{eqb}
 use Rattle.rules.specs.Card.{firstCharge, IsCharge}
 use Rattle.rules.specs.Kind.{IsKind}
-use Rattle.rules.specs.Table.{IsActionField, width, word, committed, aborted, withState, startedField, parentField, kindOf, stateField, pendingField, ownAddsField, isCommitted}
+use Rattle.rules.specs.Table.{IsActionField, width, word, committed, aborted, withState, highestField, parentField, kindOf, stateField, pendingField, ownAddsField, isCommitted}
 use Rattle.rules.specs.Queue.{withTail, withReady, withoutBelow}
-use Rattle.rules.specs.Sound.{IsStarted, Sound}
+use Rattle.rules.specs.Sound.{IsGiven, Sound}
 use Rattle.rules.specs.Step.{readTable, writeTable, abortTable}
 use Rattle.rules.proofs.Laws.Permitted.{Touchable, Committable}
 use Rattle.rules.proofs.Sound.QueueChanges.{OffLength, tail-keeps, ready-keeps, without-keeps}
@@ -27,7 +27,7 @@ module _ {w : List ℕ} (s : Sound w) (n k : ℕ) (charge : IsCharge k) where
   read-calm j p =
       let kept = read-keeps-field w n j (p .account) in
       record {
-        starts = kept 0 startedField (omega arith) (λ z. omega arith) (λ z. omega arith);
+        starts = kept 0 highestField (omega arith) (λ z. omega arith) (λ z. omega arith);
         parents = λ m h. kept m parentField (omega arith) (λ z. omega arith) (λ z. omega arith);
         states = λ m h. ap (λ x. eqb x committed) (kept m stateField (omega arith) (λ z. omega arith) (λ z. omega arith));
         pendings = λ m h. kept m (pendingField k) (omega arith) (λ z. omega (arith, p .account)) (λ z. omega (arith, p .account));
@@ -38,7 +38,7 @@ module _ {w : List ℕ} (s : Sound w) (n k : ℕ) (charge : IsCharge k) where
   write-calm j p below =
       let kept = write-keeps-field w s n j (p .own) (p .alive) (p .account) in
       record {
-        starts = kept 0 startedField (omega arith) (λ z. omega arith);
+        starts = kept 0 highestField (omega arith) (λ z. omega arith);
         parents = λ m h. kept m parentField (omega arith) (λ z. omega arith);
         states = λ m h. ap (λ x. eqb x committed) (kept m stateField (omega arith) (λ z. omega arith));
         pendings = λ m h. kept m (pendingField k) (omega arith) (λ z. omega arith);
@@ -49,10 +49,10 @@ module _ {w : List ℕ} (s : Sound w) (n k : ℕ) (charge : IsCharge k) where
 
   states-calm :
       {v : List ℕ} → ((m g : ℕ) → g < width → g ≢ stateField → word v m g ≡ word w m g) →
-      ((m : ℕ) → IsStarted w m → isCommitted v m ≡ isCommitted w m) → Calm w v k
+      ((m : ℕ) → IsGiven w m → isCommitted v m ≡ isCommitted w m) → Calm w v k
   states-calm kept states =
       record {
-        starts = kept 0 startedField (omega arith) (λ z. omega arith);
+        starts = kept 0 highestField (omega arith) (λ z. omega arith);
         parents = λ m h. kept m parentField (omega arith) (λ z. omega arith);
         states = states;
         pendings = λ m h. kept m (pendingField k) (omega arith) (λ z. omega arith);
@@ -71,7 +71,7 @@ module _ {w : List ℕ} (s : Sound w) (n k : ℕ) (charge : IsCharge k) where
     queue-calm : {v : List ℕ} → ((m g : ℕ) → IsActionField g → OffLength h m g → word v m g ≡ word w m g) → Calm w v k
     queue-calm kept =
         record {
-          starts = kept 0 startedField (inl (omega arith)) (inr (λ z. omega arith));
+          starts = kept 0 highestField (inl (omega arith)) (inr (λ z. omega arith));
           parents = λ m begun. kept m parentField (inl (omega arith)) (inl (begun .0));
           states = λ m begun. ap (λ x. eqb x committed) (kept m stateField (inl (omega arith)) (inl (begun .0)));
           pendings = λ m begun. kept m (pendingField k) (inl (omega arith)) (inl (begun .0));

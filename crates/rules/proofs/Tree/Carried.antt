@@ -5,7 +5,7 @@ use mathlib.Core.Path.{_≡_}
 use mathlib.Core.List.{List}
 use lib.IntN.{ℤ, _+ℤ_}
 use Rattle.rules.specs.Table.{pendingSum, ownAdds}
-use Rattle.rules.specs.Sound.{IsStarted}
+use Rattle.rules.specs.Sound.{IsGiven}
 use Rattle.rules.specs.Tree.{committedChildren, addedUp}
 
 -- the pending sums for charge account k, and what they make for p's committed children
@@ -17,5 +17,5 @@ fromChildren w k p = addedUp (pendings w k) (committedChildren w p)
 
 -- opening and now are amounts of charge account k in the base store
 pub record Carried (k : ℕ) (opening : ℤ) (w : List ℕ) (now : ℤ) : Type 0 where
-  pub sums : (n : ℕ) → IsStarted w n → pendingSum w n k ≡ ownAdds w n k +ℤ fromChildren w k n
+  pub sums : (n : ℕ) → IsGiven w n → pendingSum w n k ≡ ownAdds w n k +ℤ fromChildren w k n
   pub closing : now ≡ opening +ℤ fromChildren w k 0

@@ -10,14 +10,14 @@ use lib.Dec.{eqb}
 use lib.IntN.{pos, _+ℤ_, +ℤ-idl}
 use Rattle.rules.specs.Card.{IsCharge}
 use Rattle.rules.specs.Amount.{amountOf}
-use Rattle.rules.specs.Table.{committed, started, parentOf, stateField, pendingField, pendingWord, pendingSum, isCommitted, actions}
-use Rattle.rules.specs.Sound.{IsStarted}
+use Rattle.rules.specs.Table.{committed, highest, parentOf, stateField, pendingField, pendingWord, pendingSum, isCommitted, actions}
+use Rattle.rules.specs.Sound.{IsGiven}
 use Rattle.rules.specs.Ledger.{Ledger}
 use Rattle.rules.specs.Commit.{committedUnder}
 use Rattle.rules.proofs.Laws.Tests.{false-of-not-true}
 use Rattle.rules.proofs.Laws.Permitted.{Committable}
 use Rattle.rules.proofs.Sound.TableChanges.{live-uncommitted}
-use Rattle.rules.proofs.Sound.Committing.{commit-started, commit-parent, commit-keeps-row, commit-keeps-others}
+use Rattle.rules.proofs.Sound.Committing.{commit-highest, commit-parent, commit-keeps-row, commit-keeps-others}
 use Rattle.rules.proofs.Demand.Proper.{Proper}
 use Rattle.rules.proofs.Demand.CommitTable.{parent-other, now-committed}
 use Rattle.rules.proofs.Tree.Sums.{addedUp-above}
@@ -34,7 +34,7 @@ module _
   v = committedUnder s n p .table
 
   -- the parent of a live action has not committed
-  committed-no-parent : (m : ℕ) → IsStarted w m → isCommitted w m ≡ true → m ≢ p
+  committed-no-parent : (m : ℕ) → IsGiven w m → isCommitted w m ≡ true → m ≢ p
   committed-no-parent m h did e =
       ⊎-elim
       (λ top. omega (arith, under, e, h))
@@ -44,7 +44,7 @@ module _
   sum-kept : (m : ℕ) → m ≢ p → pendingWord v m k ≡ pendingWord w m k
   sum-kept m other = commit-keeps-others s n p (judged .own .0) m other (pendingField k) (omega arith) (omega arith)
 
-  others-bring : (q m : ℕ) → IsStarted w m → m ≢ n → brought v (pendings v k) q m ≡ brought w (pendings w k) q m
+  others-bring : (q m : ℕ) → IsGiven w m → m ≢ n → brought v (pendings v k) q m ≡ brought w (pendings w k) q m
   others-bring q m h other =
       brings-same w v (pendings w k) (pendings v k) q m
       (commit-parent s n p (judged .own .0) m)
@@ -64,10 +64,10 @@ module _
 
   pub others-children-kept : (q : ℕ) → q ≢ p → fromChildren v k q ≡ fromChildren w k q
   others-children-kept q other =
-      same-brought w v (pendings w k) (pendings v k) q (commit-started s n p (judged .own .0))
+      same-brought w v (pendings w k) (pendings v k) q (commit-highest s n p (judged .own .0))
       (λ m h. brings m h (ℕ-discrete m n))
     where
-      brings : (m : ℕ) → IsStarted w m → Dec (m ≡ n) → brought v (pendings v k) q m ≡ brought w (pendings w k) q m
+      brings : (m : ℕ) → IsGiven w m → Dec (m ≡ n) → brought v (pendings v k) q m ≡ brought w (pendings w k) q m
       brings m h (no ne) = others-bring q m h ne
       brings m h (yes e) =
           rw e
@@ -78,8 +78,8 @@ module _
   unfolding actions
   parents-children-grow q its =
       rw its (all-brought v (pendings v k) p
-      ∙ rw (commit-started s n p (judged .own .0))
-      (addedUp-above _ _ (pendingSum w n k) 1 (started w) n (omega (arith, judged .own))
+      ∙ rw (commit-highest s n p (judged .own .0))
+      (addedUp-above _ _ (pendingSum w n k) 1 (highest w) n (omega (arith, judged .own))
       (now-brings ∙ sym (ap (λ z. z +ℤ pendingSum w n k) (brought-nothing p) ∙ +ℤ-idl (pendingSum w n k)))
       (λ m h. others-bring p m (omega arith)))
       ∙ ap (λ z. z +ℤ pendingSum w n k) (sym (all-brought w (pendings w k) p)))

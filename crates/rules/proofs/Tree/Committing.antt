@@ -11,12 +11,12 @@ use Rattle.rules.specs.declared.Found.the-variants.{Nothing}
 use Rattle.rules.specs.Card.{IsCharge}
 use Rattle.rules.specs.Amount.{amountOf, baseAmount}
 use Rattle.rules.specs.Table.{parentOf, pendingField, pendingSum, ownAdds}
-use Rattle.rules.specs.Sound.{IsStarted}
+use Rattle.rules.specs.Sound.{IsGiven}
 use Rattle.rules.specs.Ledger.{Ledger}
 use Rattle.rules.specs.Cause.{isCommitOutside}
 use Rattle.rules.specs.Commit.{committedUnder}
 use Rattle.rules.proofs.Laws.Permitted.{Committable}
-use Rattle.rules.proofs.Sound.Committing.{commit-started, commit-keeps-others, commit-own-adds}
+use Rattle.rules.proofs.Sound.Committing.{commit-highest, commit-keeps-others, commit-own-adds}
 use Rattle.rules.proofs.Demand.Proper.{Proper}
 use Rattle.rules.proofs.Demand.CommitCards.{commit-base-same}
 use Rattle.rules.proofs.Tree.Carried.{fromChildren, Carried}
@@ -36,13 +36,13 @@ module _
   own-kept : (m : ℕ) → ownAdds v m k ≡ ownAdds w m k
   own-kept m = ap amountOf (commit-own-adds s n p (judged .own .0) m k charge)
 
-  other-carried : (m : ℕ) → IsStarted w m → m ≢ p → pendingSum v m k ≡ ownAdds v m k +ℤ fromChildren v k m
+  other-carried : (m : ℕ) → IsGiven w m → m ≢ p → pendingSum v m k ≡ ownAdds v m k +ℤ fromChildren v k m
   other-carried m h other =
       ap amountOf (commit-keeps-others s n p (judged .own .0) m other (pendingField k) (omega arith) (omega arith))
       ∙ was .sums m h
       ∙ sym (ap₂ _+ℤ_ (own-kept m) (others-children-kept proper judged under k charge m other))
 
-  parent-carried : IsStarted w p → pendingSum v p k ≡ ownAdds v p k +ℤ fromChildren v k p
+  parent-carried : IsGiven w p → pendingSum v p k ≡ ownAdds v p k +ℤ fromChildren v k p
   parent-carried h =
       parent-grows proper judged under fits k charge (λ z. omega arith)
       ∙ ap (λ z. z +ℤ pendingSum w n k) (was .sums p h)
@@ -62,10 +62,10 @@ module _
   pub commit-carried : Carried k opening v (baseAmount (committedUnder s n p .base) k)
   commit-carried =
       record {
-        sums = λ m h. by-parent m (h .0, rw (commit-started s n p (judged .own .0)) at (h .1)) (ℕ-discrete m p);
+        sums = λ m h. by-parent m (h .0, rw (commit-highest s n p (judged .own .0)) at (h .1)) (ℕ-discrete m p);
         closing = store-carried (ℕ-discrete p 0);
       }
     where
-      by-parent : (m : ℕ) → IsStarted w m → Dec (m ≡ p) → pendingSum v m k ≡ ownAdds v m k +ℤ fromChildren v k m
+      by-parent : (m : ℕ) → IsGiven w m → Dec (m ≡ p) → pendingSum v m k ≡ ownAdds v m k +ℤ fromChildren v k m
       by-parent m h (yes e) = rw e (parent-carried (rw e at h))
       by-parent m h (no ne) = other-carried m h ne

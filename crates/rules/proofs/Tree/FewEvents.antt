@@ -7,7 +7,7 @@ use mathlib.Core.List.{List}
 use lib.ListN.{length}
 use Rattle.rules.specs.Card.{baseLength, shadowLength, IsCharge}
 use Rattle.rules.specs.Amount.{isAmount, mostAdded}
-use Rattle.rules.specs.Table.{started, actions}
+use Rattle.rules.specs.Table.{highest, actions}
 use Rattle.rules.specs.Sound.{Sound}
 use Rattle.rules.specs.Event.{Event}
 use Rattle.rules.specs.Encoding.{mostEvents}
@@ -27,7 +27,7 @@ most = mostAdded * mostEvents
 small-sum : {w : List ℕ} → Sound w → (k : ℕ) → OwnAtMost k most w → isAmount (topSum w k) ≡ true
 unfolding actions
 small-sum {w} s k each =
-    let together = tally-at-most (ownMagnitude w k) most 1 (started w) (λ m h. each m (omega arith)) in
+    let together = tally-at-most (ownMagnitude w k) most 1 (highest w) (λ m h. each m (omega arith)) in
     amount-holds (topSum w k) .1 (omega (arith, topSum-magnitude w s k, together, s .few))
 
 pub few-events-fit :

@@ -9,8 +9,8 @@ use mathlib.Core.List.{List, [], _∷_, flatMap, List·Memᴰ, List·Memᴰ·hea
 use borrow.Author.Tests.{eqb-true}
 use lib.ListN.{length, length-append}
 use Rattle.rules.specs.Range.{upFrom, filter}
-use Rattle.rules.specs.Table.{mostActions, started, parentOf, actions, isChildOf}
-use Rattle.rules.specs.Sound.{IsStarted, Sound}
+use Rattle.rules.specs.Table.{mostActions, highest, parentOf, actions, isChildOf}
+use Rattle.rules.specs.Sound.{IsGiven, Sound}
 use Rattle.rules.specs.Tree.{Line, children, linesWithin, treeLines}
 use Rattle.rules.proofs.Laws.Tests.{cond-same}
 use Rattle.rules.proofs.Laws.Ranges.{filter-only}
@@ -38,7 +38,7 @@ unfolding linesWithin children ofChildren held actions
 lines-within w zero depth p = sym (tally-nothing _ (λ m. cond-same (isChildOf w p m) 0) (actions w))
 lines-within w (suc levels) depth p =
     lines-together _ (isChildOf w p) (actions w)
-    ∙ tally-agree _ _ 1 (started w)
+    ∙ tally-agree _ _ 1 (highest w)
     (λ m h. ap (λ z. cond (isChildOf w p m) z 0) (omega (arith, lines-within w levels (suc depth) m)))
 
 -- one for each number of a run
@@ -47,9 +47,9 @@ unfolding tally upFrom
 ones a zero = refl
 ones a (suc n) = omega (arith, ones (suc a) n)
 
-pub line-for-each : {w : List ℕ} → Sound w → length (treeLines w) ≡ started w
+pub line-for-each : {w : List ℕ} → Sound w → length (treeLines w) ≡ highest w
 unfolding treeLines actions
-line-for-each {w} s = lines-within w mostActions _ 0 ∙ held-by-all s (λ m. 1) ∙ ones 1 (started w)
+line-for-each {w} s = lines-within w mostActions _ 0 ∙ held-by-all s (λ m. 1) ∙ ones 1 (highest w)
 
 -- ---- whose lines they are
 
@@ -69,15 +69,15 @@ in-each P f (x ∷ xs) holds line m =
 -- every line is that of an action, and its depth is one fewer than the moves up to the store
 module _ {w : List ℕ} (s : Sound w) where
   abbrev Placed : Line → Type 0
-  Placed line = IsStarted w (line .number) × (movesToStore w (line .number) ≡ suc (line .depth))
+  Placed line = IsGiven w (line .number) × (movesToStore w (line .number) ≡ suc (line .depth))
 
   -- a child of p lies one move further from the store
   child-placed :
-      (p n : ℕ) {depth : ℕ} → movesToStore w p ≡ depth → List·Memᴰ n (children w p) → IsStarted w n × (movesToStore w n ≡ suc depth)
+      (p n : ℕ) {depth : ℕ} → movesToStore w p ≡ depth → List·Memᴰ n (children w p) → IsGiven w n × (movesToStore w n ≡ suc depth)
   unfolding children actions
   child-placed p n up child =
-      let (within, is) = filter-only (isChildOf w p) 1 (started w) n child in
-      let known : IsStarted w n = omega arith in
+      let (within, is) = filter-only (isChildOf w p) 1 (highest w) n child in
+      let known : IsGiven w n = omega arith in
       let step = movesToStore-step w n (λ z. omega arith) (sound-climbs s n (known .1)) in
       (known, step ∙ ap (λ q. suc (movesToStore w q)) (eqb-true (parentOf w n) p is) ∙ ap suc up)
 

@@ -10,8 +10,8 @@ use borrow.Author.Tests.{eq-eqb}
 use Rattle.rules.specs.Range.{any}
 use Rattle.rules.specs.Card.{baseLength, firstCharge, chargeCount, chargeAccounts, IsCharge}
 use Rattle.rules.specs.Amount.{isAmount}
-use Rattle.rules.specs.Table.{started, actions}
-use Rattle.rules.specs.Sound.{IsStarted}
+use Rattle.rules.specs.Table.{highest, actions}
+use Rattle.rules.specs.Sound.{IsGiven}
 use Rattle.rules.specs.Ledger.{Ledger}
 use Rattle.rules.specs.Cause.{isStoreLengthWrong}
 use Rattle.rules.specs.Tree.{totalOf, topSum, isFigureOutside, treeCauses, treeCause}
@@ -23,7 +23,7 @@ use Rattle.rules.proofs.Demand.Proper.{Proper}
 
 pub not-refused :
     (s : Ledger) (opening : List ℕ) → Proper s → length opening ≡ baseLength →
-    ((n k : ℕ) → IsStarted (s .table) n → IsCharge k → isAmount (totalOf (s .table) k n) ≡ true) →
+    ((n k : ℕ) → IsGiven (s .table) n → IsCharge k → isAmount (totalOf (s .table) k n) ≡ true) →
     ((k : ℕ) → IsCharge k → isAmount (topSum (s .table) k) ≡ true) → treeCause (s .table) (s .base) (s .shadow) opening ≡ 0
 unfolding treeCause treeCauses isFigureOutside actions chargeAccounts
 not-refused s opening proper openingFits totals tops =
@@ -39,7 +39,7 @@ not-refused s opening proper openingFits totals tops =
     figures-inside : (k : ℕ) → IsCharge k → isFigureOutside (s .table) k ≡ false
     figures-inside k charge =
         or-fails _ _ .1 (
-          not-any _ 1 (started (s .table)) (λ n h. not-fails _ .1 (totals n k (omega arith) charge)),
+          not-any _ 1 (highest (s .table)) (λ n h. not-fails _ .1 (totals n k (omega arith) charge)),
           not-fails _ .1 (tops k charge),
         )
 

@@ -6,7 +6,7 @@ use lib.ListN.{length}
 use Rattle.rules.specs.Card.{IsCharge}
 use Rattle.rules.specs.Amount.{mostAdded}
 use Rattle.rules.specs.Table.{word, newTable, ownAddsField, ownAdds}
-use Rattle.rules.specs.Sound.{IsStarted, Sound}
+use Rattle.rules.specs.Sound.{IsGiven, Sound}
 use Rattle.rules.specs.Event.{Event}
 use Rattle.rules.specs.Ledger.{Ledger}
 use Rattle.rules.specs.Commit.{committedUnder}
@@ -16,7 +16,7 @@ use Rattle.rules.proofs.Laws.Integers.{up, dn}
 use Rattle.rules.proofs.Laws.Amounts.{amount-zero, addable-holds}
 use Rattle.rules.proofs.Laws.Permitted.{Startable, Committable}
 use Rattle.rules.proofs.Sound.Starting.{start-own-adds, old-row, by-age}
-use Rattle.rules.proofs.Sound.Committing.{commit-started, commit-own-adds}
+use Rattle.rules.proofs.Sound.Committing.{commit-highest, commit-own-adds}
 use Rattle.rules.proofs.Demand.Proper.{Proper, step-keeps-proper}
 use Rattle.rules.proofs.Tree.Quiet.{Quiet, Calm}
 use Rattle.rules.proofs.Tree.ByChange.{step-by-change}
@@ -24,7 +24,7 @@ use Rattle.rules.proofs.Tree.Magnitudes.{magnitude, sum-magnitude}
 
 -- the own adds of every action for charge account k are at most c
 abbrev pub OwnAtMost : ℕ → ℕ → List ℕ → Type 0
-OwnAtMost k c w = (m : ℕ) → IsStarted w m → magnitude (ownAdds w m k) ≤ c
+OwnAtMost k c w = (m : ℕ) → IsGiven w m → magnitude (ownAdds w m k) ≤ c
 
 pub new-at-most : (k : ℕ) → OwnAtMost k 0 newTable
 unfolding newTable word
@@ -34,21 +34,21 @@ new-at-most k m h = absurd (omega (arith, h))
 
 calm-at-most : (k c : ℕ) {w v : List ℕ} → OwnAtMost k c w → Calm w v k → OwnAtMost k c v
 calm-at-most k c {w} was calm m h =
-    let before : IsStarted w m = (h .0, rw (calm .starts) at (h .1)) in
+    let before : IsGiven w m = (h .0, rw (calm .starts) at (h .1)) in
     rw (calm .owns m before) (was m before)
 
 commit-at-most :
     {k : ℕ} → IsCharge k → (c : ℕ) (s : Ledger) (n p : ℕ) → Committable (s .table) n → OwnAtMost k c (s .table) →
     OwnAtMost k c (committedUnder s n p .table)
 commit-at-most {k} charge c s n p judged was m h =
-    rw (commit-own-adds s n p (judged .own .0) m k charge) (was m (h .0, rw (commit-started s n p (judged .own .0)) at (h .1)))
+    rw (commit-own-adds s n p (judged .own .0) m k charge) (was m (h .0, rw (commit-highest s n p (judged .own .0)) at (h .1)))
 
 -- ---- any other change no more than an event may
 
 module _ {k : ℕ} (charge : IsCharge k) {w : List ℕ} (s : Sound w) {c : ℕ} (was : OwnAtMost k c w) where
   quiet-at-most : (v : List ℕ) → Quiet w v k → OwnAtMost k (mostAdded + c) v
   quiet-at-most v quiet m h =
-      let before : IsStarted w m = (h .0, rw (quiet .starts) at (h .1)) in
+      let before : IsGiven w m = (h .0, rw (quiet .starts) at (h .1)) in
       let grown = quiet .grown m before in
       rw (grown .own)
       (omega (arith, sum-magnitude (ownAdds w m k) (grown .by), addable-holds (grown .by) .0 (grown .addable), was m before))

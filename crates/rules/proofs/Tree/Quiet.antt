@@ -6,8 +6,8 @@ use mathlib.Core.Bool.{true}
 use mathlib.Core.List.{List}
 use lib.IntN.{ℤ, pos, _+ℤ_, +ℤ-idr}
 use Rattle.rules.specs.Amount.{amountOf, isAddable}
-use Rattle.rules.specs.Table.{started, parentOf, pendingWord, pendingSum, ownAddsWord, ownAdds, isCommitted}
-use Rattle.rules.specs.Sound.{IsStarted}
+use Rattle.rules.specs.Table.{highest, parentOf, pendingWord, pendingSum, ownAddsWord, ownAdds, isCommitted}
+use Rattle.rules.specs.Sound.{IsGiven}
 use Rattle.rules.proofs.Tree.Sums.{add-behind}
 use Rattle.rules.proofs.Tree.Brought.{brings-same, same-brought}
 use Rattle.rules.proofs.Tree.Carried.{pendings, fromChildren, Carried}
@@ -33,19 +33,19 @@ grow-nothing w v k m pending own =
 
 -- the table v after w: the same actions, parents and committed ones; no sum of these changes, and those of the others grow alike
 pub record Quiet (w v : List ℕ) (k : ℕ) : Type 0 where
-  pub starts : started v ≡ started w
-  pub parents : (m : ℕ) → IsStarted w m → parentOf v m ≡ parentOf w m
-  pub states : (m : ℕ) → IsStarted w m → isCommitted v m ≡ isCommitted w m
-  pub settled : (m : ℕ) → IsStarted w m → isCommitted w m ≡ true → pendingWord v m k ≡ pendingWord w m k
-  pub grown : (m : ℕ) → IsStarted w m → GrowAlike w v k m
+  pub starts : highest v ≡ highest w
+  pub parents : (m : ℕ) → IsGiven w m → parentOf v m ≡ parentOf w m
+  pub states : (m : ℕ) → IsGiven w m → isCommitted v m ≡ isCommitted w m
+  pub settled : (m : ℕ) → IsGiven w m → isCommitted w m ≡ true → pendingWord v m k ≡ pendingWord w m k
+  pub grown : (m : ℕ) → IsGiven w m → GrowAlike w v k m
 
 -- .. where no sum changes at all
 pub record Calm (w v : List ℕ) (k : ℕ) : Type 0 where
-  pub starts : started v ≡ started w
-  pub parents : (m : ℕ) → IsStarted w m → parentOf v m ≡ parentOf w m
-  pub states : (m : ℕ) → IsStarted w m → isCommitted v m ≡ isCommitted w m
-  pub pendings : (m : ℕ) → IsStarted w m → pendingWord v m k ≡ pendingWord w m k
-  pub owns : (m : ℕ) → IsStarted w m → ownAddsWord v m k ≡ ownAddsWord w m k
+  pub starts : highest v ≡ highest w
+  pub parents : (m : ℕ) → IsGiven w m → parentOf v m ≡ parentOf w m
+  pub states : (m : ℕ) → IsGiven w m → isCommitted v m ≡ isCommitted w m
+  pub pendings : (m : ℕ) → IsGiven w m → pendingWord v m k ≡ pendingWord w m k
+  pub owns : (m : ℕ) → IsGiven w m → ownAddsWord v m k ≡ ownAddsWord w m k
 
 pub calm-quiet : {w v : List ℕ} {k : ℕ} → Calm w v k → Quiet w v k
 calm-quiet {w} {v} {k} calm =
@@ -71,7 +71,7 @@ quiet-carried {w} {v} {k} {opening} quiet was =
         brings-same w v (pendings w k) (pendings v k) p m (quiet .parents m h) (quiet .states m h)
         (λ child did. ap amountOf (quiet .settled m h did)))
 
-    carries : (n : ℕ) → IsStarted w n → pendingSum v n k ≡ ownAdds v n k +ℤ fromChildren v k n
+    carries : (n : ℕ) → IsGiven w n → pendingSum v n k ≡ ownAdds v n k +ℤ fromChildren v k n
     carries n h =
         let grown = quiet .grown n h in
         grown .pending ∙ ap (λ y. y +ℤ grown .by) (was .sums n h)

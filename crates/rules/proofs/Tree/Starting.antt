@@ -9,11 +9,11 @@ use lib.Dec.{eqb}
 use lib.IntN.{ℤ, pos, _+ℤ_, +ℤ-idr}
 use Rattle.rules.specs.Card.{IsCharge}
 use Rattle.rules.specs.Amount.{amountOf}
-use Rattle.rules.specs.Table.{width, committed, word, started, parentField, stateField, pendingField, pendingSum, ownAddsField, ownAdds, actions}
-use Rattle.rules.specs.Sound.{IsStarted, Sound}
+use Rattle.rules.specs.Table.{width, committed, word, highest, parentField, stateField, pendingField, pendingSum, ownAddsField, ownAdds, actions}
+use Rattle.rules.specs.Sound.{IsGiven, Sound}
 use Rattle.rules.specs.Step.{startTable}
 use Rattle.rules.proofs.Laws.Permitted.{Startable}
-use Rattle.rules.proofs.Sound.Starting.{new, start-started, start-state, start-pending, start-own-adds, old-row, by-age}
+use Rattle.rules.proofs.Sound.Starting.{new, start-highest, start-state, start-pending, start-own-adds, old-row, by-age}
 use Rattle.rules.proofs.Tree.Sums.{addedUp-agree, addedUp-nothing, addedUp-longer}
 use Rattle.rules.proofs.Tree.Brought.{brought, all-brought, brings-same, other-brings-nothing, uncommitted-brings-nothing}
 use Rattle.rules.proofs.Tree.Carried.{pendings, fromChildren, Carried}
@@ -22,10 +22,10 @@ module _ {w : List ℕ} (s : Sound w) (p k : ℕ) (charge : IsCharge k) (permitt
   abbrev v : List ℕ
   v = startTable w p
 
-  old-kept : (m g : ℕ) → IsStarted w m → g < width → word v m g ≡ word w m g
+  old-kept : (m g : ℕ) → IsGiven w m → g < width → word v m g ≡ word w m g
   old-kept = old-row w p s (permitted .room) (permitted .known) (permitted .alive) (permitted .unqueued)
 
-  brought-kept : (q m : ℕ) → IsStarted w m → brought v (pendings v k) q m ≡ brought w (pendings w k) q m
+  brought-kept : (q m : ℕ) → IsGiven w m → brought v (pendings v k) q m ≡ brought w (pendings w k) q m
   brought-kept q m h =
       brings-same w v (pendings w k) (pendings v k) q m
       (old-kept m parentField h (omega arith))
@@ -33,18 +33,18 @@ module _ {w : List ℕ} (s : Sound w) (p k : ℕ) (charge : IsCharge k) (permitt
       (λ child did. ap amountOf (old-kept m (pendingField k) h (omega arith)))
 
   -- the new action is live
-  new-brings : (q : ℕ) → brought v (pendings v k) q (1 + started w) ≡ pos 0
+  new-brings : (q : ℕ) → brought v (pendings v k) q (1 + highest w) ≡ pos 0
   new-brings q =
-      rw (add-comm 1 (started w))
+      rw (add-comm 1 (highest w))
       (uncommitted-brings-nothing v (pendings v k) q (new w p) (rw (start-state w p (s .long) (permitted .room)) refl))
 
   children-kept : (q : ℕ) → fromChildren v k q ≡ fromChildren w k q
   unfolding actions
   children-kept q =
       all-brought v _ q
-      ∙ rw (start-started w p (s .long) (permitted .room), add-one)
-      (addedUp-longer _ 1 (started w) (new-brings q)
-      ∙ addedUp-agree _ _ 1 (started w) (λ m h. brought-kept q m (omega arith)))
+      ∙ rw (start-highest w p (s .long) (permitted .room), add-one)
+      (addedUp-longer _ 1 (highest w) (new-brings q)
+      ∙ addedUp-agree _ _ 1 (highest w) (λ m h. brought-kept q m (omega arith)))
       ∙ sym (all-brought w _ q)
 
   -- parents are older than their children
@@ -52,7 +52,7 @@ module _ {w : List ℕ} (s : Sound w) (p k : ℕ) (charge : IsCharge k) (permitt
   unfolding actions
   new-childless =
       all-brought w _ (new w p)
-      ∙ addedUp-nothing _ 1 (started w)
+      ∙ addedUp-nothing _ 1 (highest w)
       (λ m h. other-brings-nothing w (pendings w k) (new w p) m (λ e. omega (arith, s .below m (omega arith))))
 
   new-own : ownAdds v (new w p) k ≡ amountOf 0
@@ -65,7 +65,7 @@ module _ {w : List ℕ} (s : Sound w) (p k : ℕ) (charge : IsCharge k) (permitt
       ∙ sym (ap₂ _+ℤ_ new-own (children-kept (new w p) ∙ new-childless))
 
   module _ {opening now : ℤ} (was : Carried k opening w now) where
-    old-carried : (n : ℕ) → IsStarted w n → pendingSum v n k ≡ ownAdds v n k +ℤ fromChildren v k n
+    old-carried : (n : ℕ) → IsGiven w n → pendingSum v n k ≡ ownAdds v n k +ℤ fromChildren v k n
     old-carried n h =
         ap amountOf (old-kept n (pendingField k) h (omega arith))
         ∙ was .sums n h

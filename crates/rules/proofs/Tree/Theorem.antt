@@ -7,7 +7,7 @@ use lib.ListN.{length}
 use Rattle.rules.specs.Card.{baseLength, shadowLength, IsCharge}
 use Rattle.rules.specs.Amount.{baseAmount}
 use Rattle.rules.specs.Table.{pendingWord, pendingSum}
-use Rattle.rules.specs.Sound.{IsStarted}
+use Rattle.rules.specs.Sound.{IsGiven}
 use Rattle.rules.specs.Event.{Event}
 use Rattle.rules.specs.Encoding.{mostEvents}
 use Rattle.rules.specs.Ledger.{Ledger}
@@ -26,7 +26,7 @@ use Rattle.rules.proofs.Tree.NotRefused.{not-refused}
 -- ---- a ledger that carries the sums
 
 module _ {s : Ledger} (proper : Proper s) (opening : List ℕ) {k : ℕ} (carried : CarriedIn k opening s) where
-  total-pending : (n : ℕ) → IsStarted (s .table) n → pendingSum (s .table) n k ≡ totalOf (s .table) k n
+  total-pending : (n : ℕ) → IsGiven (s .table) n → pendingSum (s .table) n k ≡ totalOf (s .table) k n
   total-pending = total-only (proper .sound) k (pendings (s .table) k) (carried .sums)
 
   topSum-pending : topSum (s .table) k ≡ fromChildren (s .table) k 0
@@ -49,7 +49,7 @@ module _
   carried-after {k} charge =
       run-carried charge base (newOver base shadow) es (new-proper base shadow baseFits shadowFits) (new-carried base shadow k)
 
-  totals : (n k : ℕ) → IsStarted (after .table) n → IsCharge k → pendingSum (after .table) n k ≡ totalOf (after .table) k n
+  totals : (n k : ℕ) → IsGiven (after .table) n → IsCharge k → pendingSum (after .table) n k ≡ totalOf (after .table) k n
   totals n k known charge = total-pending proper-after base (carried-after charge) n known
 
   pub balanced : Balanced base shadow es

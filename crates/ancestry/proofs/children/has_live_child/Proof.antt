@@ -17,15 +17,15 @@ Inv-loop table p last m₀ m-end m = (m ≤ m-end) × (hasLiveChild table p ≡ 
 abbrev μ-loop : tie.MeasureT-loop
 μ-loop table p last m₀ m-end m = m-end - m
 
-last-start-requires : tie.Need-last-start-requires Inv-loop μ-loop
-last-start-requires c κs = search needs
+highest-requires : tie.Need-highest-requires Inv-loop μ-loop
+highest-requires c κs = search needs
 
 add-m-end : tie.Need-add-m-end Inv-loop μ-loop
 add-m-end c = search needs
 
 loop-holds : tie.Need-loop-holds Inv-loop μ-loop
 unfolding hasLiveChild actions
-loop-holds c = (omega arith, rw (add-sub-cancel, c .last-start .ensures))
+loop-holds c = (omega arith, rw (add-sub-cancel, c .highest .ensures))
 
 is-live-child-requires : tie.Need-is-live-child-requires Inv-loop μ-loop
 is-live-child-requires c κs = search needs
@@ -57,7 +57,7 @@ has-live-child-spec =
     (tie.spec
     Inv-loop
     μ-loop
-    last-start-requires
+    highest-requires
     add-m-end
     loop-holds
     is-live-child-requires

@@ -12,7 +12,7 @@ use borrow.Fn.Kinds.{In}
 use borrow.Fn.PlainCycle.{Measures, is, falls, and}
 use Rattle.rules.specs.Card.{IsPlain}
 use Rattle.rules.specs.Table.{parentOf, hasWritten}
-use Rattle.rules.specs.Sound.{IsStarted, Sound}
+use Rattle.rules.specs.Sound.{IsGiven, Sound}
 use Rattle.rules.specs.Nearest.{movesUp, version}
 use Rattle.rules.proofs.Laws.Walking.{sound-climbs, nearest-store}
 use Rattle.rules.proofs.Laws.Charges.{hasCard-below}
@@ -28,7 +28,7 @@ use Rattle.ancestry.proofs.walk.+climb.Tie.{close}
 
 -- the version seen from an action, with some moves made before: its own where it has a card for the account, and else its
 -- parent's, with one move more
-module _ (w : List ℕ) (n k made : ℕ) (plain : IsPlain k) (sound : Sound w) (own : IsStarted w n) where
+module _ (w : List ℕ) (n k made : ℕ) (plain : IsPlain k) (sound : Sound w) (own : IsGiven w n) where
   own-version : hasWritten w n k ≡ true → countedOn made (version w n k) ≡ record { holder = n; moves = made }
   own-version held =
       let held-card = hasCard-below w n k plain ∙ held in

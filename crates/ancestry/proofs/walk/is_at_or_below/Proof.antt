@@ -5,14 +5,14 @@ use native.Mathlib.Omega.{arith}
 use mathlib.Core.Path.{_≡_, refl, sym}
 use borrow.Author.Needs.{needs}
 use borrow.Author.Tests.{eq-eqb, ne-eqb}
-use Rattle.rules.specs.Table.{started}
+use Rattle.rules.specs.Table.{highest}
 use Rattle.rules.specs.Walk.{isAtOrBelow}
-use Rattle.rules.proofs.Laws.Walking.{started-climbs, atOrBelow-store, atOrBelow-step}
+use Rattle.rules.proofs.Laws.Walking.{given-climbs, atOrBelow-store, atOrBelow-step}
 use Rattle.ancestry.proofs.walk.is_at_or_below.Statement.{statement}
 use Rattle.ancestry.proofs.walk.is_at_or_below.Tie as tie
 
 abbrev Inv-loop : tie.InvT-loop
-Inv-loop table a m at₀ at = (at ≤ started table) × (isAtOrBelow table a m ≡ isAtOrBelow table a at)
+Inv-loop table a m at₀ at = (at ≤ highest table) × (isAtOrBelow table a m ≡ isAtOrBelow table a at)
 
 abbrev μ-loop : tie.MeasureT-loop
 μ-loop table a m at₀ at = at
@@ -27,7 +27,7 @@ returns c =
     rw (
       loop .inv .1,
       atOrBelow-step _ (start .args .a) (loop .at) (λ z. omega arith)
-          (started-climbs _ (start .pre .0 .few) (start .pre .0 .below) (loop .at) (omega arith)),
+          (given-climbs _ (start .pre .0 .few) (start .pre .0 .below) (loop .at) (omega arith)),
       eq-eqb _ _ (c .if1 .taken),
     )
 
@@ -49,7 +49,7 @@ loop-again c =
       rw (
         loop .inv .1,
         atOrBelow-step _ (start .args .a) (loop .at) (λ z. omega arith)
-            (started-climbs _ (start .pre .0 .few) (start .pre .0 .below) (loop .at) (omega arith)),
+            (given-climbs _ (start .pre .0 .few) (start .pre .0 .below) (loop .at) (omega arith)),
         ne-eqb _ _ (c .before .if1 .left),
         ← c .parent .ensures,
       ),

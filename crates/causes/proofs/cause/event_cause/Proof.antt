@@ -4,7 +4,7 @@ use borrow.Author.Needs.{needs}
 use borrow.Author.Tests.{le-leb, lt-leb, le-ltb, lt-ltb, ne-eqb, not-true, not-false}
 use native.Mathlib.Omega.{arith}
 use mathlib.Core.Path.{sym, _∙_}
-use Rattle.rules.specs.Table.{started}
+use Rattle.rules.specs.Table.{highest}
 use Rattle.rules.specs.Event.{startCode, judgeCode}
 use Rattle.rules.specs.Cause.{earlyCauses}
 use Rattle.causes.proofs.Grouped.{causes-of-start, causes-of-kind}
@@ -19,8 +19,8 @@ returns-2 : tie.Need-returns-2
 unfolding earlyCauses
 returns-2 c = rw (le-leb startCode _ (c .before .if1 .left), lt-leb _ judgeCode (c .if2 .taken))
 
-last-start-requires : tie.Need-last-start-requires
-last-start-requires c κs = search needs
+highest-requires : tie.Need-highest-requires
+highest-requires c κs = search needs
 
 returns-3 : tie.Need-returns-3
 unfolding earlyCauses
@@ -28,7 +28,7 @@ returns-3 c =
     rw (
       le-leb startCode _ (c .before .before .before .if1 .left),
       le-leb _ judgeCode (c .before .before .if2 .left),
-      ← c .before .last-start .ensures,
+      ← c .before .highest .ensures,
       lt-ltb _ _ (c .if3 .taken),
     )
 
@@ -47,7 +47,7 @@ returns-5 c =
       le-leb startCode (args .code) (omega arith),
       le-leb (args .code) judgeCode (omega arith),
       c .if5 .taken,
-      le-ltb (started (args .table .now)) 0 (omega arith),
+      le-ltb (highest (args .table .now)) 0 (omega arith),
       ne-eqb (args .code) startCode (c .before .if4 .left),
     )
 
@@ -61,7 +61,7 @@ returns-6 c =
     rw (
       le-leb startCode (args .code) (omega arith),
       le-leb (args .code) judgeCode (omega arith),
-      le-ltb (started (args .table .now)) (args .number) (omega arith),
+      le-ltb (highest (args .table .now)) (args .number) (omega arith),
       ne-eqb (args .number) 0 (c .before .before .if5 .left),
       sym (c .before .is-live .ensures) ∙ not-true (c .before .is-live .result) (c .if6 .taken),
     )
@@ -84,7 +84,7 @@ event-cause-spec =
     (tie.spec
     returns
     returns-2
-    last-start-requires
+    highest-requires
     returns-3
     start-cause-requires
     returns-4

@@ -29,12 +29,12 @@ parent-alive c =
     (λ w. rw (w .left))
     (c .if1 .came)
 
-last-start-requires : tie.Need-last-start-requires
-last-start-requires c κs = search needs
+highest-requires : tie.Need-highest-requires
+highest-requires c κs = search needs
 
 returns-2 : tie.Need-returns-2
 unfolding startCauses
-returns-2 c = rw (parent-alive (c .before .before), ← c .before .last-start .ensures, le-leb mostActions _ (c .if3 .taken))
+returns-2 c = rw (parent-alive (c .before .before), ← c .before .highest .ensures, le-leb mostActions _ (c .if3 .taken))
 
 queued-cause-requires : tie.Need-queued-cause-requires
 queued-cause-requires c κs = search needs
@@ -44,7 +44,7 @@ unfolding startCauses
 returns-3 c =
     rw (
       parent-alive (c .before .before .before),
-      ← c .before .before .last-start .ensures,
+      ← c .before .before .highest .ensures,
       lt-leb mostActions _ (c .before .if3 .left),
     )
     (c .queued-cause .ensures)
@@ -55,7 +55,7 @@ start-cause-spec =
     (tie.spec
     is-live-requires
     returns
-    last-start-requires
+    highest-requires
     returns-2
     queued-cause-requires
     returns-3)

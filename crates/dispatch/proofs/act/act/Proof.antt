@@ -7,7 +7,7 @@ use mathlib.Core.Bool.{_||_}
 use borrow.Author.Needs.{needs}
 use borrow.Author.Tests.{eq-eqb, ne-eqb, leb-true}
 use Rattle.rules.specs.Card.{firstCharge}
-use Rattle.rules.specs.Sound.{IsStarted, Sound}
+use Rattle.rules.specs.Sound.{IsGiven, Sound}
 use Rattle.rules.specs.Event.{Event, eventOf, startCode, readCode, writeCode, addCode, judgeCode, isRead, isWrite}
 use Rattle.rules.specs.Ledger.{Ledger, ledgerOf}
 use Rattle.rules.specs.Step.{start, write}
@@ -36,7 +36,7 @@ accepted c = (c .pre .1 .0, table-sound c)
 event-allowed : (c : tie.Start) → EarlyAllowed (c .args .table .now) (eventAt c)
 event-allowed c = early-allowed _ _ (c .pre .1 .1)
 
-own-number : (c : tie.Start) → c .args .code ≢ startCode → IsStarted (c .args .table .now) (c .args .number)
+own-number : (c : tie.Start) → c .args .code ≢ startCode → IsGiven (c .args .table .now) (c .args .number)
 own-number c other = (event-allowed c .named (ne-eqb _ startCode other), event-allowed c .numberKnown)
 
 -- an enter, a judge or an abort that isn't refused may take its turn

@@ -15,8 +15,8 @@ Inv-loop table₀ n last found₀ m₀ m-end table found m = Reached table₀ n 
 abbrev μ-loop : tie.MeasureT-loop
 μ-loop table₀ n last found₀ m₀ m-end table found m = m-end - m
 
-last-start-requires : tie.Need-last-start-requires Inv-loop μ-loop
-last-start-requires c κs = search needs
+highest-requires : tie.Need-highest-requires Inv-loop μ-loop
+highest-requires c κs = search needs
 
 add-m-end : tie.Need-add-m-end Inv-loop μ-loop
 add-m-end c = omega arith
@@ -66,7 +66,7 @@ abort-live-spec =
     (tie.spec
     Inv-loop
     μ-loop
-    last-start-requires
+    highest-requires
     add-m-end
     loop-holds
     is-aborted-by-requires

@@ -4,14 +4,14 @@ use Rattle.rules.specs.Step.{startTable}
 use Rattle.events.proofs.start.start.Statement.{statement}
 use Rattle.events.proofs.start.start.Tie as tie
 
-last-start-requires : tie.Need-last-start-requires
-last-start-requires c κs = search needs
+highest-requires : tie.Need-highest-requires
+highest-requires c κs = search needs
 
 add-n : tie.Need-add-n
 add-n c = search needs
 
-set-last-start-requires : tie.Need-set-last-start-requires
-set-last-start-requires c κs = search needs
+set-highest-requires : tie.Need-set-highest-requires
+set-highest-requires c κs = search needs
 
 set-parent-requires : tie.Need-set-parent-requires
 set-parent-requires c κs = search needs
@@ -40,9 +40,9 @@ returns c =
     let lives = ended .before .before .before .before in
     let placed = lives .before .before .before .before in
     let counted = placed .before .before .before .before in
-    let last = counted .before .before .last-start .ensures in (
+    let last = counted .before .before .highest .ensures in (
       rw last,
-      rw (← last, ← counted .set-last-start .ensures, ← placed .set-parent .ensures, ← lives .set-state .ensures, ← ended .clear-end .ensures, ← unadded .clear-own-adds .ensures)
+      rw (← last, ← counted .set-highest .ensures, ← placed .set-parent .ensures, ← lives .set-state .ensures, ← ended .clear-end .ensures, ← unadded .clear-own-adds .ensures)
           (emptied .clear-sets .ensures),
     )
 
@@ -50,9 +50,9 @@ pub start-spec : {M : Type 1} → statement M
 start-spec =
     tie.close
     (tie.spec
-    last-start-requires
+    highest-requires
     add-n
-    set-last-start-requires
+    set-highest-requires
     set-parent-requires
     set-state-requires
     clear-end-requires

@@ -16,25 +16,25 @@ put-text-requires c κs = search needs
 put-spaced-requires : tie.Need-put-spaced-requires
 put-spaced-requires c κs =
     let a = c .before .before .before .before .before .before .before .args in
-    omega (arith, end-length (a .started) (a .top) (a .sub))
+    omega (arith, end-length (a .starts) (a .top) (a .sub))
 
 put-spaced-requires-2 : tie.Need-put-spaced-requires-2
 put-spaced-requires-2 c κs =
     let a = c .before .before .before .before .before .before .before .before .before .before .before .args in
-    omega (arith, end-length (a .started) (a .top) (a .sub))
+    omega (arith, end-length (a .starts) (a .top) (a .sub))
 
 put-spaced-requires-3 : tie.Need-put-spaced-requires-3
 put-spaced-requires-3 c κs =
     let first = c .before .before .before .before .before .before .before in
     let a = first .before .before .before .before .before .before .before .before .args in
-    omega (arith, end-length (a .started) (a .top) (a .sub))
+    omega (arith, end-length (a .starts) (a .top) (a .sub))
 
 put-byte-requires : tie.Need-put-byte-requires
 put-byte-requires c κs =
     let second = c .before .before .before .before .before .before .before in
     let first = second .before .before .before .before in
     let a = first .before .before .before .before .before .before .before .before .args in
-    omega (arith, end-length (a .started) (a .top) (a .sub))
+    omega (arith, end-length (a .starts) (a .top) (a .sub))
 
 same-length : tie.Need-same-length
 same-length c = search needs

@@ -22,15 +22,15 @@ Inv-loop table k last n₀ n-end n =
 abbrev μ-loop : tie.MeasureT-loop
 μ-loop table k last n₀ n-end n = n-end - n
 
-last-start-requires : tie.Need-last-start-requires Inv-loop μ-loop
-last-start-requires c κs = search needs
+highest-requires : tie.Need-highest-requires Inv-loop μ-loop
+highest-requires c κs = search needs
 
 add-n-end : tie.Need-add-n-end Inv-loop μ-loop
 add-n-end c = search needs
 
 loop-holds : tie.Need-loop-holds Inv-loop μ-loop
 unfolding actions
-loop-holds c = (omega arith, omega arith, rw (add-sub-cancel, c .last-start .ensures))
+loop-holds c = (omega arith, omega arith, rw (add-sub-cancel, c .highest .ensures))
 
 total-requires : tie.Need-total-requires Inv-loop μ-loop
 total-requires c κs = search needs
@@ -64,7 +64,7 @@ totals-fit-spec =
     (tie.spec
     Inv-loop
     μ-loop
-    last-start-requires
+    highest-requires
     add-n-end
     loop-holds
     total-requires

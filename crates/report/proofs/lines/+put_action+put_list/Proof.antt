@@ -10,7 +10,7 @@ use Rattle.rules.specs.Table.{mostActions}
 use Rattle.rules.proofs.Laws.Negated.{failed, held}
 use Rattle.report.specs.Lined.{lineAtDepth, actionLines, linesFrom}
 use Rattle.report.proofs.Lining.{lined-none, lined-one, lined-both, lined-length, room-first, room-then, lines-done, lines-here, lines-next, line-first, lines-of-last, lines-of-action}
-use Rattle.rows.proofs.fields.last_start.Reads as last-start
+use Rattle.rows.proofs.fields.highest.Reads as highest
 use Rattle.report.proofs.lines.is_child.Reads as is-child
 use Rattle.report.proofs.lines.put_line.Reads as put-line
 use Rattle.report.proofs.lines.put_action.Reads as put-action
@@ -50,7 +50,7 @@ abbrev action-calls : ℕ → put-action-lts.Claims
 action-calls t = (put-line.Asked, put-line.Learnt, put-list-below t, put-list.Post)
 
 abbrev list-calls : ℕ → put-list-lts.Claims
-list-calls t = (last-start.Asked, last-start.Learnt, is-child.Asked, is-child.Learnt, put-list-below t, put-list.Post, put-action-below t, put-action.Post)
+list-calls t = (highest.Asked, highest.Learnt, is-child.Asked, is-child.Learnt, put-list-below t, put-list.Post, put-action-below t, put-action.Post)
 
 -- ---- `put_action`
 
@@ -114,8 +114,8 @@ put-action-returns-2 t c =
 
 -- ---- `put_list`
 
-put-list-last-start-requires : (t : ℕ) → put-list-lts.Need-last-start-requires (list-calls t) (put-list-at t) put-list.Post
-put-list-last-start-requires t c κs =
+put-list-highest-requires : (t : ℕ) → put-list-lts.Need-highest-requires (list-calls t) (put-list-at t) put-list.Post
+put-list-highest-requires t c κs =
     let start = c .before .before in
     omega (arith, start .pre .1 .0 .sound .long)
 
@@ -123,13 +123,13 @@ put-list-returns : (t : ℕ) → put-list-lts.Need-returns (list-calls t) (put-l
 put-list-returns t c =
     let start = c .before .before .before .before in
     let args = start .args in
-    let over = rw (c .before .last-start .ensures) at (c .if1 .taken) in
+    let over = rw (c .before .highest .ensures) at (c .if1 .taken) in
     rw (lines-done (args .levels) (args .table .now) (args .depth) (args .p) (args .i) over) (lined-none _ _ _)
 
 put-list-is-child-requires : (t : ℕ) → put-list-lts.Need-is-child-requires (list-calls t) (put-list-at t) put-list.Post
 put-list-is-child-requires t c κs =
     let start = c .before .before .before .before in
-    let within = rw (c .before .last-start .ensures) at (c .if1 .left) in
+    let within = rw (c .before .highest .ensures) at (c .if1 .left) in
     let sound = start .pre .1 .0 .sound in
     omega (arith, within, sound .long, sound .few)
 
@@ -142,7 +142,7 @@ put-list-put-list-requires : (t : ℕ) → put-list-lts.Need-put-list-requires (
 put-list-put-list-requires t c κs =
     let start = c .before .before .before .before .before .before .before in
     let args = start .args in
-    let within = rw (c .before .before .before .before .last-start .ensures) at (c .before .before .before .if1 .left) in
+    let within = rw (c .before .before .before .before .highest .ensures) at (c .before .before .before .if1 .left) in
     let isnt = failed (c .before .before .is-child .ensures) (c .before .if2 .taken) in
     let lines = lines-next (args .levels) (args .table .now) (args .depth) (args .p) (args .i) (omega (arith, within)) isnt in
     (omega (arith, within, start .pre .1 .0 .sound .few), (start .pre .1 .0, (omega (arith, within), (start .pre .1 .1 .1 .0, rw lines at (start .pre .1 .1 .1 .1)))))
@@ -154,7 +154,7 @@ put-list-returns-2 : (t : ℕ) → put-list-lts.Need-returns-2 (list-calls t) (p
 put-list-returns-2 t c =
     let start = c .before .before .before .before .before .before .before .before .before .before in
     let args = start .args in
-    let within = rw (c .before .before .before .before .before .before .before .last-start .ensures) at (c .before .before .before .before .before .before .if1 .left) in
+    let within = rw (c .before .before .before .before .before .before .before .highest .ensures) at (c .before .before .before .before .before .before .if1 .left) in
     let isnt = failed (c .before .before .before .before .before .is-child .ensures) (c .before .before .before .before .if2 .taken) in
     rw (lines-next (args .levels) (args .table .now) (args .depth) (args .p) (args .i) (omega (arith, within)) isnt) (c .before .before .put-list .ensures)
 
@@ -162,7 +162,7 @@ put-list-put-action-requires : (t : ℕ) → put-list-lts.Need-put-action-requir
 put-list-put-action-requires t c κs =
     let start = c .before .before .before .before .before .before .before in
     let args = start .args in
-    let within = rw (c .before .before .before .before .last-start .ensures) at (c .before .before .before .if1 .left) in
+    let within = rw (c .before .before .before .before .highest .ensures) at (c .before .before .before .if1 .left) in
     let is = held (c .before .before .is-child .ensures) (c .before .if2 .left) in
     let lines = lines-here (args .levels) (args .table .now) (args .depth) (args .p) (args .i) (omega (arith, within)) is in
     (omega (arith, within, start .pre .1 .0 .sound .few), (start .pre .1 .0, (omega (arith, within, start .pre .1 .1 .0), (start .pre .1 .1 .1 .0, room-first _ _ (rw lines at (start .pre .1 .1 .1 .1))))))
@@ -176,7 +176,7 @@ put-list-put-list-requires-2 : (t : ℕ) → put-list-lts.Need-put-list-requires
 put-list-put-list-requires-2 t c κs =
     let start = c .before .before .before .before .before .before .before .before .before .before .before in
     let args = start .args in
-    let within = rw (c .before .before .before .before .before .before .before .before .last-start .ensures) at (c .before .before .before .before .before .before .before .if1 .left) in
+    let within = rw (c .before .before .before .before .before .before .before .before .highest .ensures) at (c .before .before .before .before .before .before .before .if1 .left) in
     let is = held (c .before .before .before .before .before .before .is-child .ensures) (c .before .before .before .before .before .if2 .left) in
     let lines = lines-here (args .levels) (args .table .now) (args .depth) (args .p) (args .i) (omega (arith, within)) is in
     let put = c .before .before .before .put-action .ensures in
@@ -202,7 +202,7 @@ put-list-returns-3 : (t : ℕ) → put-list-lts.Need-returns-3 (list-calls t) (p
 put-list-returns-3 t c =
     let start = c .before .before .before .before .before .before .before .before .before .before .before .before .before .before in
     let args = start .args in
-    let within = rw (c .before .before .before .before .before .before .before .before .before .before .before .last-start .ensures) at (c .before .before .before .before .before .before .before .before .before .before .if1 .left) in
+    let within = rw (c .before .before .before .before .before .before .before .before .before .before .before .highest .ensures) at (c .before .before .before .before .before .before .before .before .before .before .if1 .left) in
     let is = held (c .before .before .before .before .before .before .before .before .before .is-child .ensures) (c .before .before .before .before .before .before .before .before .if2 .left) in
     rw (lines-here (args .levels) (args .table .now) (args .depth) (args .p) (args .i) (omega (arith, within)) is)
     (lined-both _ (c .before .before .before .before .before .before .put-action .ensures) (c .before .before .put-list2 .ensures))
@@ -223,7 +223,7 @@ pub +put-action+put-list-spec : {M : Type 1} → statement M
     (put-action-returns-2 t))
     λ t.
     put-list-lts.spec (list-calls t) (put-list-at t) put-list.Post
-    (put-list-last-start-requires t)
+    (put-list-highest-requires t)
     (put-list-returns t)
     (put-list-is-child-requires t)
     (put-list-add-put-list t)

@@ -6,7 +6,7 @@ use Prim.Native.Nat.{ℕ, _-_}
 use borrow.Author.Needs.{needs}
 use borrow.Author.Tests.{ne-eqb}
 use lib.ListN.{length}
-use Rattle.rules.specs.Table.{mostActions, started}
+use Rattle.rules.specs.Table.{mostActions, highest}
 use Rattle.rules.specs.Sound.{Sound}
 use Rattle.rules.specs.Tree.{treeLines, withReport, report}
 use Rattle.rules.proofs.Tree.Lines.{line-for-each}
@@ -21,7 +21,7 @@ all-lines : (w : List ℕ) → treeLines w ≡ linesFrom (mostActions - 1) w 0 0
 unfolding treeLines
 all-lines w = lines-under (mostActions - 1) w 0 0
 
-how-many : {w : List ℕ} → Sound w → length (linesFrom (mostActions - 1) w 0 0 1) ≡ started w
+how-many : {w : List ℕ} → Sound w → length (linesFrom (mostActions - 1) w 0 0 1) ≡ highest w
 how-many {w} s = ap length (sym (all-lines w)) ∙ line-for-each s
 
 tree-cause-requires : tie.Need-tree-cause-requires
@@ -44,8 +44,8 @@ put-block-requires c κs =
     let may = reportable _ _ _ _ (sym (c .before .before .before .before .tree-cause .ensures) ∙ c .before .before .before .if1 .left) in
     (may .fit, ((may .accepted .0 .baseFits, may .opens), lined-length _ (c .before .put-list .ensures) ∙ search needs))
 
-last-start-requires : tie.Need-last-start-requires
-last-start-requires c κs =
+highest-requires : tie.Need-highest-requires
+highest-requires c κs =
     let may = reportable _ _ _ _ (sym (c .before .before .before .before .before .tree-cause .ensures) ∙ c .before .before .before .before .if1 .left) in
     omega (arith, may .accepted .1 .long)
 
@@ -56,7 +56,7 @@ returns-2 c =
     let none = sym (c .before .before .before .before .before .before .tree-cause .ensures) ∙ c .before .before .before .before .before .if1 .left in
     let may = reportable _ _ _ _ none in
     let sound : Sound (args .table .now) = may .accepted .1 in
-    rw (none, all-lines (args .table .now), how-many sound, c .before .put-block .ensures, c .before .before .before .put-list .ensures .leaves, c .last-start .ensures)
+    rw (none, all-lines (args .table .now), how-many sound, c .before .put-block .ensures, c .before .before .before .put-list .ensures .leaves, c .highest .ensures)
 
 pub report-spec : {M : Type 1} → statement M
 report-spec =
@@ -67,5 +67,5 @@ report-spec =
     sub-put-list
     put-list-requires
     put-block-requires
-    last-start-requires
+    highest-requires
     returns-2)

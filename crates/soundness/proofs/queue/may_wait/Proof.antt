@@ -11,14 +11,14 @@ returns : tie.Need-returns
 unfolding mayWait
 returns c = rw (c .if1 .taken)
 
-last-start-requires : tie.Need-last-start-requires
-last-start-requires c κs = search needs
+highest-requires : tie.Need-highest-requires
+highest-requires c κs = search needs
 
 returns-2 : tie.Need-returns-2
 unfolding mayWait
 returns-2 c =
     let n = c .before .before .before .before .args .n in
-    rw (le-leb 1 n (omega arith), ← c .before .last-start .ensures, lt-leb _ _ (c .if2 .taken))
+    rw (le-leb 1 n (omega arith), ← c .before .highest .ensures, lt-leb _ _ (c .if2 .taken))
 
 is-live-requires : tie.Need-is-live-requires
 is-live-requires c κs = search needs
@@ -30,7 +30,7 @@ returns-3 c =
     let n = known .before .before .before .before .args .n in
     rw (
       le-leb 1 n (omega arith),
-      ← known .before .last-start .ensures,
+      ← known .before .highest .ensures,
       le-leb n _ (known .if2 .left),
       failed (c .before .is-live .ensures) (c .if3 .taken),
     )
@@ -46,7 +46,7 @@ returns-4 c =
     let n = known .before .before .before .before .args .n in
     rw (
       le-leb 1 n (omega arith),
-      ← known .before .last-start .ensures,
+      ← known .before .highest .ensures,
       le-leb n _ (known .if2 .left),
       held (alive .before .is-live .ensures) (alive .if3 .left),
       ← c .before .kind-of .ensures,
@@ -65,7 +65,7 @@ returns-5 c =
     let n = known .before .before .before .before .args .n in
     rw (
       le-leb 1 n (omega arith),
-      ← known .before .last-start .ensures,
+      ← known .before .highest .ensures,
       le-leb n _ (known .if2 .left),
       held (alive .before .is-live .ensures) (alive .if3 .left),
       ← kin .before .kind-of .ensures,
@@ -78,7 +78,7 @@ may-wait-spec =
     tie.close
     (tie.spec
     returns
-    last-start-requires
+    highest-requires
     returns-2
     is-live-requires
     returns-3

@@ -20,15 +20,15 @@ Inv-loop table last n₀ n-end n =
 abbrev μ-loop : tie.MeasureT-loop
 μ-loop table last n₀ n-end n = n-end - n
 
-last-start-requires : tie.Need-last-start-requires Inv-loop μ-loop
-last-start-requires c κs = search needs
+highest-requires : tie.Need-highest-requires Inv-loop μ-loop
+highest-requires c κs = search needs
 
 add-n-end : tie.Need-add-n-end Inv-loop μ-loop
 add-n-end c = search needs
 
 loop-holds : tie.Need-loop-holds Inv-loop μ-loop
 unfolding actions
-loop-holds c = (omega arith, rw (add-sub-cancel, c .last-start .ensures))
+loop-holds c = (omega arith, rw (add-sub-cancel, c .highest .ensures))
 
 is-sound-action-requires : tie.Need-is-sound-action-requires Inv-loop μ-loop
 is-sound-action-requires c κs = search needs
@@ -60,7 +60,7 @@ all-sound-spec =
     (tie.spec
     Inv-loop
     μ-loop
-    last-start-requires
+    highest-requires
     add-n-end
     loop-holds
     is-sound-action-requires

@@ -22,15 +22,15 @@ Inv-loop table h last found₀ n₀ n-end found n =
 abbrev μ-loop : tie.MeasureT-loop
 μ-loop table h last found₀ n₀ n-end found n = n-end - n
 
-last-start-requires : tie.Need-last-start-requires Inv-loop μ-loop
-last-start-requires c κs = search needs
+highest-requires : tie.Need-highest-requires Inv-loop μ-loop
+highest-requires c κs = search needs
 
 add-n-end : tie.Need-add-n-end Inv-loop μ-loop
 add-n-end c = search needs
 
 loop-holds : tie.Need-loop-holds Inv-loop μ-loop
 unfolding actions
-loop-holds c = (omega arith, omega arith, rw (add-sub-cancel, zero-add, c .last-start .ensures))
+loop-holds c = (omega arith, omega arith, rw (add-sub-cancel, zero-add, c .highest .ensures))
 
 is-committed-of-requires : tie.Need-is-committed-of-requires Inv-loop μ-loop
 is-committed-of-requires c κs = search needs
@@ -65,7 +65,7 @@ count-committed-spec =
     (tie.spec
     Inv-loop
     μ-loop
-    last-start-requires
+    highest-requires
     add-n-end
     loop-holds
     is-committed-of-requires

@@ -12,13 +12,13 @@ returns : tie.Need-returns
 unfolding sound
 returns c = rw (ne-eqb _ _ (c .if1 .taken))
 
-last-start-requires : tie.Need-last-start-requires
-last-start-requires c κs = search needs
+highest-requires : tie.Need-highest-requires
+highest-requires c κs = search needs
 
 returns-2 : tie.Need-returns-2
 unfolding sound
 returns-2 c =
-    rw (eq-eqb _ _ (c .before .before .if1 .left), ← c .before .last-start .ensures, lt-leb _ mostActions (c .if2 .taken))
+    rw (eq-eqb _ _ (c .before .before .if1 .left), ← c .before .highest .ensures, lt-leb _ mostActions (c .if2 .taken))
 
 are-counted-requires : tie.Need-are-counted-requires
 are-counted-requires c κs = search needs
@@ -29,7 +29,7 @@ returns-3 c =
     let two = c .before .before in
     rw (
       eq-eqb _ _ (two .before .before .if1 .left),
-      ← two .before .last-start .ensures,
+      ← two .before .highest .ensures,
       le-leb _ mostActions (two .if2 .left),
       failed (c .before .are-counted .ensures) (c .if3 .taken),
     )
@@ -44,7 +44,7 @@ returns-4 c =
     let two = three .before .before in
     rw (
       eq-eqb _ _ (two .before .before .if1 .left),
-      ← two .before .last-start .ensures,
+      ← two .before .highest .ensures,
       le-leb _ mostActions (two .if2 .left),
       held (three .before .are-counted .ensures) (three .if3 .left),
       failed (c .before .all-sound .ensures) (c .if4 .taken),
@@ -61,7 +61,7 @@ returns-5 c =
     let two = three .before .before in
     rw (
       eq-eqb _ _ (two .before .before .if1 .left),
-      ← two .before .last-start .ensures,
+      ← two .before .highest .ensures,
       le-leb _ mostActions (two .if2 .left),
       held (three .before .are-counted .ensures) (three .if3 .left),
       held (four .before .all-sound .ensures) (four .if4 .left),
@@ -73,7 +73,7 @@ is-sound-spec =
     tie.close
     (tie.spec
     returns
-    last-start-requires
+    highest-requires
     returns-2
     are-counted-requires
     returns-3

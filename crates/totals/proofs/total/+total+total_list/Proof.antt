@@ -13,7 +13,7 @@ use Rattle.totals.specs.Figure.{figureOf}
 use Rattle.totals.specs.Total.{totalFigure}
 use Rattle.amounts.proofs.sum.of_word.Reads as of-word
 use Rattle.amounts.proofs.sum.plus.Reads as plus
-use Rattle.rows.proofs.fields.last_start.Reads as last-start
+use Rattle.rows.proofs.fields.highest.Reads as highest
 use Rattle.rows.proofs.fields.own_adds.Reads as own-adds
 use Rattle.totals.proofs.Gathering.{no-levels, gathered-none, room-for-child, gathered-next, gathered-here, room-for-own, total-made}
 use Rattle.totals.proofs.figure.figure_of.Reads as figure-of
@@ -66,8 +66,8 @@ total-calls t = (
 
 abbrev list-calls : ℕ → total-list-lts.Claims
 list-calls t = (
-  last-start.Asked,
-  last-start.Learnt,
+  highest.Asked,
+  highest.Learnt,
   of-word.Asked,
   of-word.Learnt,
   total-list-below t,
@@ -116,8 +116,8 @@ total-returns-2 t c =
 
 -- ---- `total_list`
 
-total-list-last-start-requires : (t : ℕ) → total-list-lts.Need-last-start-requires (list-calls t) (total-list-at t) total-list.Post
-total-list-last-start-requires t c κs = search needs
+total-list-highest-requires : (t : ℕ) → total-list-lts.Need-highest-requires (list-calls t) (total-list-at t) total-list.Post
+total-list-highest-requires t c κs = search needs
 
 total-list-of-word-requires : (t : ℕ) → total-list-lts.Need-of-word-requires (list-calls t) (total-list-at t) total-list.Post
 total-list-of-word-requires t c κs = tt
@@ -125,7 +125,7 @@ total-list-of-word-requires t c κs = tt
 total-list-returns : (t : ℕ) → total-list-lts.Need-returns (list-calls t) (total-list-at t) total-list.Post
 total-list-returns t c =
     let start = c .before .before .before .before in
-    let over = rw (c .before .before .last-start .ensures) at (c .before .if1 .taken) in
+    let over = rw (c .before .before .highest .ensures) at (c .before .if1 .taken) in
     rw (c .of-word .ensures) (gathered-none _ _ (start .pre .1 .0 .few) _ _ _ (start .pre .1 .1 .0) over)
 
 total-list-add-total-list : (t : ℕ) → total-list-lts.Need-add-total-list (list-calls t) (total-list-at t) total-list.Post
@@ -134,7 +134,7 @@ total-list-add-total-list t c = omega arith
 total-list-total-list-requires : (t : ℕ) → total-list-lts.Need-total-list-requires (list-calls t) (total-list-at t) total-list.Post
 total-list-total-list-requires t c κs =
     let start = c .before .before .before in
-    let within = rw (c .before .last-start .ensures) at (c .if1 .left) in
+    let within = rw (c .before .highest .ensures) at (c .if1 .left) in
     (omega arith, (start .pre .1 .0, (omega arith, start .pre .1 .1 .1)))
 
 total-list-is-committed-child-requires : (t : ℕ) → total-list-lts.Need-is-committed-child-requires (list-calls t) (total-list-at t) total-list.Post
@@ -143,26 +143,26 @@ total-list-is-committed-child-requires t c κs = omega arith
 total-list-returns-2 : (t : ℕ) → total-list-lts.Need-returns-2 (list-calls t) (total-list-at t) total-list.Post
 total-list-returns-2 t c =
     let start = c .before .before .before .before .before .before in
-    let within = rw (c .before .before .before .before .last-start .ensures) at (c .before .before .before .if1 .left) in
+    let within = rw (c .before .before .before .before .highest .ensures) at (c .before .before .before .if1 .left) in
     let isnt = sym (c .before .is-committed-child .ensures) ∙ not-true (c .before .is-committed-child .result) (c .if2 .taken) in
     gathered-next _ _ (start .pre .1 .0 .few) _ _ _ (omega arith) _ (c .before .before .total-list .ensures) isnt
 
 total-list-total-requires : (t : ℕ) → total-list-lts.Need-total-requires (list-calls t) (total-list-at t) total-list.Post
 total-list-total-requires t c κs =
     let start = c .before .before .before .before .before .before in
-    let within = rw (c .before .before .before .before .last-start .ensures) at (c .before .before .before .if1 .left) in
+    let within = rw (c .before .before .before .before .highest .ensures) at (c .before .before .before .if1 .left) in
     (omega arith, (start .pre .1 .0, (omega arith, start .pre .1 .1 .1)))
 
 total-list-joined-requires : (t : ℕ) → total-list-lts.Need-joined-requires (list-calls t) (total-list-at t) total-list.Post
 total-list-joined-requires t c κs =
     let start = c .before .before .before .before .before .before .before in
-    let within = rw (c .before .before .before .before .before .last-start .ensures) at (c .before .before .before .before .if1 .left) in
+    let within = rw (c .before .before .before .before .before .highest .ensures) at (c .before .before .before .before .if1 .left) in
     room-for-child _ _ (start .pre .1 .0 .few) _ _ _ (omega arith) _ (c .before .before .before .total-list .ensures)
 
 total-list-returns-3 : (t : ℕ) → total-list-lts.Need-returns-3 (list-calls t) (total-list-at t) total-list.Post
 total-list-returns-3 t c =
     let start = c .before .before .before .before .before .before .before .before in
-    let within = rw (c .before .before .before .before .before .before .last-start .ensures) at (c .before .before .before .before .before .if1 .left) in
+    let within = rw (c .before .before .before .before .before .before .highest .ensures) at (c .before .before .before .before .before .if1 .left) in
     let asked = c .before .before .before .is-committed-child in
     let is = sym (asked .ensures) ∙ not-false (asked .result) (c .before .before .if2 .left) in
     rw (c .joined .ensures)
@@ -183,7 +183,7 @@ pub +total+total-list-spec : {M : Type 1} → statement M
     (total-returns-2 t))
     λ t.
     total-list-lts.spec (list-calls t) (total-list-at t) total-list.Post
-    (total-list-last-start-requires t)
+    (total-list-highest-requires t)
     (total-list-of-word-requires t)
     (total-list-returns t)
     (total-list-add-total-list t)

@@ -6,7 +6,7 @@ use native.Mathlib.Omega.{arith}
 use mathlib.Core.Path.{_≡_, refl, sym, _∙_}
 use mathlib.Core.Logic.{⊎-elim}
 use borrow.Author.Needs.{needs}
-use Rattle.rules.specs.Table.{started}
+use Rattle.rules.specs.Table.{highest}
 use Rattle.rules.specs.Search.{nextAfter}
 use Rattle.rules.proofs.Laws.Tests.{and-left}
 use Rattle.rules.proofs.Clash.Records.{record-parent}
@@ -18,19 +18,19 @@ use Rattle.validation.proofs.records.next_record.Tie as tie
 
 abbrev Inv-loop : tie.InvT-loop
 Inv-loop table p t m₀ next₀ m next =
-    (m ≤ started table)
-    × (next ≤ started table)
+    (m ≤ highest table)
+    × (next ≤ highest table)
     × IsChildOrNone table p next
     × (next ≡ nextAfter table (numberIn t) (recordsFrom table p (m + 1)))
 
 abbrev μ-loop : tie.MeasureT-loop
 μ-loop table p t m₀ next₀ m next = m
 
-last-start-requires : tie.Need-last-start-requires Inv-loop μ-loop
-last-start-requires c κs = search needs
+highest-requires : tie.Need-highest-requires Inv-loop μ-loop
+highest-requires c κs = search needs
 
 loop-holds : tie.Need-loop-holds Inv-loop μ-loop
-loop-holds c = rw (c .last-start .ensures) (le-refl _, omega arith, λ some. absurd (some refl), sym (scan-start _ _ _))
+loop-holds c = rw (c .highest .ensures) (le-refl _, omega arith, λ some. absurd (some refl), sym (scan-start _ _ _))
 
 is-next-record-requires : tie.Need-is-next-record-requires Inv-loop μ-loop
 is-next-record-requires c κs =
@@ -69,7 +69,7 @@ next-record-spec =
     (tie.spec
     Inv-loop
     μ-loop
-    last-start-requires
+    highest-requires
     loop-holds
     is-next-record-requires
     sub-m

@@ -9,9 +9,9 @@ use Rattle.rules.specs.Card.{accountCount, accounts}
 use Rattle.rules.specs.Kind.{kindUnder}
 use Rattle.rules.specs.Table.{counter, parentOf, kindOf, endTime, records}
 use Rattle.rules.specs.Clash.{firstClash}
-use Rattle.rules.specs.Sound.{IsStarted}
+use Rattle.rules.specs.Sound.{IsGiven}
 use Rattle.rules.specs.Search.{nextAfter}
-use Rattle.rules.proofs.Clash.Records.{next-started}
+use Rattle.rules.proofs.Clash.Records.{next-given}
 use Rattle.rules.proofs.Clash.Searching.{searchAfter, sound-searchable, search-none, search-next, search-after-finds}
 use Rattle.rows.specs.Times.{kindIn, numberIn}
 use Rattle.validation.proofs.ClashSearch.{next-child, searchFrom, accounts-here, accounts-next, accounts-done, first-reads}
@@ -46,12 +46,12 @@ next-found :
     let start = c .before .before .before .before .before .before in
     let table = start .args .table .now in
     let m = c .before .next-record .result in
-    IsStarted table m
+    IsGiven table m
     × (numberIn (c .before .before .records .last) < endTime table m)
     × (endTime table m ≤ counter table (kindOf table (start .args .n)))
 next-found c =
     let start = c .before .before .before .before .before .before in
-    next-started (start .pre .0) _ _ _ (is-next (c .before)) (c .if1 .left)
+    next-given (start .pre .0) _ _ _ (is-next (c .before)) (c .if1 .left)
 
 -- and of the action's kind
 next-alike :

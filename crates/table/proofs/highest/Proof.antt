@@ -1,11 +1,11 @@
--- `started` gives the actions started: the first word, which a table that is too short for it reads as 0. Assumes nothing.
+-- `highest` gives the highest number given: the first word, which a table that is too short for it reads as 0. Assumes nothing.
 use native.Mathlib.Omega.{arith}
 use mathlib.Core.Path.{refl, sym}
 use lib.ListN.{List·getD-eq-default}
 use borrow.Author.Needs.{needs}
 use Rattle.rules.specs.Table.{word}
-use Rattle.table.proofs.started.Statement.{statement}
-use Rattle.table.proofs.started.Tie as tie
+use Rattle.table.proofs.highest.Statement.{statement}
+use Rattle.table.proofs.highest.Tie as tie
 
 returns : tie.Need-returns
 unfolding word
@@ -18,5 +18,5 @@ returns-2 : tie.Need-returns-2
 unfolding word
 returns-2 c = refl
 
-pub started-spec : {M : Type 1} → statement M
-started-spec = tie.close (tie.spec returns shared-slice-read-result returns-2)
+pub highest-spec : {M : Type 1} → statement M
+highest-spec = tie.close (tie.spec returns shared-slice-read-result returns-2)
