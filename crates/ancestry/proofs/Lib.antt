@@ -1,2 +1,3 @@
 -- Facts that the proofs of walks use.
 mod Summing
+mod WayUp

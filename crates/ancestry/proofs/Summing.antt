@@ -6,11 +6,12 @@ use mathlib.Core.List.{List}
 use lib.IntN.{_+ℤ_, +ℤ-idl, +ℤ-assoc, +ℤ-comm}
 use Rattle.rules.specs.Card.{IsCharge, basePlace}
 use Rattle.rules.specs.Amount.{amountOf}
-use Rattle.rules.specs.Table.{mostActions, highest, parentOf, pendingWord, pendingSum}
-use Rattle.rules.specs.Sound.{IsGiven, Sound}
+use Rattle.rules.specs.Table.{mostActions, parentOf, pendingWord, pendingSum}
+use Rattle.rules.specs.Walk.{Climbs}
+use Rattle.rules.specs.Sound.{IsGiven, StoreOrLive, Sound}
 use Rattle.rules.specs.Nearest.{movesUp, readSum}
 use Rattle.rules.proofs.Laws.Amounts.{amount-zero}
-use Rattle.rules.proofs.Laws.Walking.{Climbs, sound-climbs, parent-known}
+use Rattle.rules.proofs.Laws.Walking.{parent-store-or-live, sound-climbs, movesToStore, movesToStore-step}
 use Rattle.rules.proofs.Laws.Versions.{movesUp-store, movesUp-step, movesUp-at-most}
 use Rattle.rules.proofs.Laws.Charges.{readSum-store, readSum-step, hasCard-charge}
 use Rattle.amounts.specs.declared.sum.Sum.{Sum}
@@ -22,17 +23,17 @@ use Rattle.ancestry.specs.Seen.{seenFrom, seenBy}
 
 -- The walk from n has come to `at` after so many moves, with the pending sums of all before it summed up.
 pub record Summed (w base : List ℕ) (n k at moves : ℕ) (sum : Sum) : Type 0 where
-  pub known : at ≤ highest w
+  pub from : StoreOrLive w at
   pub counted : Counted (moves + 1) sum
   pub walked : moves + movesUp w at k ≡ movesUp w n k
   pub summed : valueOf sum +ℤ readSum w base at k ≡ readSum w base n k
 
 module _ (w base : List ℕ) (n k : ℕ) where
-  pub summed-first : n ≤ highest w → Summed w base n k n 0 (sumOf 0)
-  summed-first known =
+  pub summed-first : StoreOrLive w n → Summed w base n k n 0 (sumOf 0)
+  summed-first from =
       let none = value-of-word 0 (omega arith) ∙ amount-zero in
       record {
-        known = known;
+        from = from;
         counted = counted-first 0 (omega arith);
         walked = omega arith;
         summed = ap (λ z. z +ℤ readSum w base n k) none ∙ +ℤ-idl (readSum w base n k);
@@ -48,7 +49,11 @@ module _ (w base : List ℕ) (n k : ℕ) where
     -- an action's pending sum is added, and the walk goes on at its parent
     module _ (good : Sound w) (charge : IsCharge k) (here : IsGiven w at) (fits : pendingWord w at k < wordValues) where
       up : Climbs w at
-      up = sound-climbs good at (here .1)
+      up = sound-climbs good at (now .from)
+
+      -- one move nearer to the store
+      pub nearer : movesToStore w (parentOf w at) < movesToStore w at
+      nearer = omega (arith, movesToStore-step w at (λ z. omega arith) up)
 
       one-more-move : movesUp w at k ≡ suc (movesUp w (parentOf w at) k)
       one-more-move = movesUp-step w k at (λ z. omega arith) up ∙ rw (hasCard-charge w at k (charge .0))
@@ -67,7 +72,7 @@ module _ (w base : List ℕ) (n k : ℕ) where
       summed-next =
           let more = counted-plus sum (pendingWord w at k) (now .counted) fits in
           record {
-            known = parent-known good at here;
+            from = parent-store-or-live good at here (now .from .1 (here .0));
             counted = omega (arith, more);
             walked = omega (arith, now .walked, one-more-move);
             summed = sum-at-parent ∙ now .summed;

@@ -2,3 +2,4 @@
 pub mod charge;
 pub mod children;
 pub mod walk;
+pub mod way;

@@ -1,9 +1,10 @@
 // Going up the parents.
 ghost use mathlib.Core.Path.{_≡_};
 ghost use Rattle.rules.specs.Card.{IsPlain};
-ghost use Rattle.rules.specs.Walk.{isAtOrBelow, isAbortedBy};
+ghost use Rattle.rules.specs.Walk.{Climbs, isAtOrBelow, isAbortedBy};
+ghost use Rattle.rules.specs.Sound.{IsGiven};
 ghost use Rattle.rules.specs.Nearest.{version};
-ghost use Rattle.ancestry.specs.Ancestry.{ParentsBelow, IsKnown, Readable, HasMovesLeft, countedOn};
+ghost use Rattle.ancestry.specs.Ancestry.{LiveClimb, Readable, HasMovesLeft, countedOn};
 use rows::fields::has_written;
 use rows::fields::is_live;
 use rows::fields::parent;
@@ -42,8 +43,9 @@ pub fn nearest(table: &[u64], n: u64, k: u64) -> Version
 
 // Action m is a, or one of its parents is.
 pub fn is_at_or_below(table: &[u64], a: u64, m: u64) -> bool
-    requires { ⌜ ParentsBelow (now table) ⌝ }
-    requires { ⌜ IsKnown (now table) m ⌝ }
+    requires { ⌜ LiveClimb (now table) ⌝ }
+    requires { ⌜ IsGiven (now table) m ⌝ }
+    requires { ⌜ Climbs (now table) m ⌝ }
     ensures { λ r. ⌜ r ≡ isAtOrBelow (now (table .entry)) a m ⌝ }
 {
     let mut at = m;
@@ -58,8 +60,8 @@ pub fn is_at_or_below(table: &[u64], a: u64, m: u64) -> bool
 
 // An abort of a reaches action m.
 pub fn is_aborted_by(table: &[u64], a: u64, m: u64) -> bool
-    requires { ⌜ ParentsBelow (now table) ⌝ }
-    requires { ⌜ IsKnown (now table) m ⌝ }
+    requires { ⌜ LiveClimb (now table) ⌝ }
+    requires { ⌜ IsGiven (now table) m ⌝ }
     ensures { λ r. ⌜ r ≡ isAbortedBy (now (table .entry)) a m ⌝ }
 {
     if !is_live(table, m) {

@@ -6,23 +6,24 @@ use Rattle.rules.specs.Range.{upFrom, downTo, any, all, count, filter, fold}
 use Rattle.rules.specs.Card.{accounts, chargeAccounts, cardAt, withCard}
 use Rattle.rules.specs.Amount.{amountOf, amountWord, isAmount, isAddable, lowFirst, bytesLowFirst, amountIn, withAmount, baseAmount}
 use Rattle.rules.specs.Kind.{kinds, kindUnder}
-use Rattle.rules.specs.Table.{word, withWord, withFields, withoutAdds, newTable, hasWrites, withReads, withBothSets, withSets, actions, hasLiveChild, isRecordOf, records}
-use Rattle.rules.specs.Walk.{walkUp, isAtOrBelow}
+use Rattle.rules.specs.Table.{word, withWord, withFields, withoutAdds, withoutKept, newTable, hasWrites, withReads, withBothSets, withSets, actions, hasLiveChild, isRecordOf, records}
+use Rattle.rules.specs.Walk.{walkUp, climbs, isAtOrBelow, isUnder}
+use Rattle.rules.specs.Free.{hasReadBefore, needs, isNeeded, isFree, firstFree, freshNumber, nextNumber}
 use Rattle.rules.specs.Queue.{entryAt, withEntry, queue, isQueued, isQueuedFailed, isQueuedReady, isWaiting, isHeadReady, withEntries, withQueue, withTail, readied, withReady, keepsPlace, withoutBelow}
-use Rattle.rules.specs.Sound.{isCounted, hasTimesIn, hasReadInTime, hasEndAlone, hasPendingWritten, isSoundAction, mayWait, areDistinct, queueNumbers, isSoundQueue, sound}
+use Rattle.rules.specs.Sound.{isBounded, hasTimesIn, hasReadInTime, hasEndAlone, hasPendingWritten, isSoundAction, mayWait, areDistinct, queueNumbers, isSoundQueue, sound, hasWayUp}
 use Rattle.rules.specs.Verdict.{meets, isMetBy, isMetInQueue, verdictOf}
 use Rattle.rules.specs.Cause.{commitSum, isCommitOutside, isReadOutside, areOutside, storeCauses, earlyCauses, lateCauses, causesOf, causeOf}
 use Rattle.rules.specs.Nearest.{nearest, movesUp, readSum}
 use Rattle.rules.specs.Look.{lookCause, look}
 use Rattle.rules.specs.Clash.{pairsWith, clashesWith, clashes, least, firstClash}
 use Rattle.rules.specs.Held.{withHeldCard, withHeldSum}
-use Rattle.rules.specs.Commit.{copyOne, copiedDown, commitTime, commitCounter, joinTable, committedUnder}
+use Rattle.rules.specs.Commit.{copyOne, copiedDown, commitTime, commitCounter, keepTable, joinTable, committedUnder}
 use Rattle.rules.specs.Event.{Event}
 use Rattle.rules.specs.Ledger.{Ledger}
-use Rattle.rules.specs.Step.{start, startTable, readAnswer, read, readTable, write, writeTable, add, addTable, commit, judged, finished, leaveWhile, leave, leaveBoth, enterTable, enter, revealed, judgeLeft, judge, outOfBoth, dropped, abortLeft, abort, abortTable, act, step, actLeavers, leaversAt}
+use Rattle.rules.specs.Step.{orphaned, giveTable, start, readAnswer, read, readTable, write, writeTable, add, addTable, commit, judged, finished, leaveWhile, leave, leaveBoth, enterTable, enter, revealed, judgeLeft, judge, outOfBoth, dropped, abortLeft, abort, abortTable, act, step, actLeavers, leaversAt}
 use Rattle.rules.specs.Run.{Ran, run}
-use Rattle.rules.specs.Tree.{children, committedChildren, addedUp, totalWithin, totalOf, topSum, linesWithin, treeLines, figuresOf, isFigureOutside, treeCauses, treeCause}
-use Rattle.cases.specs.Case.{resultOf, Case, Hold, casesTo14, casesTo25, casesTo30, casesTo37, cases}
+use Rattle.rules.specs.Tree.{children, linesWithin, treeLines, isShown, figuresOf, isFigureOutside, treeCauses, treeCause}
+use Rattle.cases.specs.Case.{resultOf, Case, Hold, casesTo14, casesTo25, casesTo30, casesTo37, casesTo43, cases}
 use Rattle.cases.specs.Moments.{moments, watched, momentsExpected}
 use Rattle.rules.specs.Serial.Effect.{lay, cardOver, sumOver}
 use Rattle.rules.specs.Serial.Told.{toldAll}
@@ -36,7 +37,7 @@ use Rattle.cases.specs.Trees.{treeAfter, treeEvents, treesExpected}
 
 -- Named on an `unfolding` line, this lets all that a list of events takes compute.
 computing : Ledger → List Event → Ran
-unfolding upFrom downTo any all count filter fold accounts chargeAccounts cardAt withCard amountOf amountWord isAmount isAddable lowFirst bytesLowFirst amountIn withAmount baseAmount kinds kindUnder word withWord withFields withoutAdds newTable hasWrites withReads withBothSets withSets actions hasLiveChild isRecordOf records walkUp isAtOrBelow entryAt withEntry queue isQueued isQueuedFailed isQueuedReady isWaiting isHeadReady withEntries withQueue withTail readied withReady keepsPlace withoutBelow isCounted hasTimesIn hasReadInTime hasEndAlone hasPendingWritten isSoundAction mayWait areDistinct queueNumbers isSoundQueue sound meets isMetBy isMetInQueue verdictOf commitSum isCommitOutside isReadOutside areOutside storeCauses earlyCauses lateCauses causesOf causeOf nearest movesUp readSum pairsWith clashesWith clashes least firstClash start startTable readAnswer read readTable write writeTable add addTable commit commitTime commitCounter withHeldCard withHeldSum copyOne copiedDown joinTable committedUnder judged finished leaveWhile leave leaveBoth enterTable enter revealed judgeLeft judge outOfBoth dropped abortLeft abort abortTable act step run
+unfolding upFrom downTo any all count filter fold accounts chargeAccounts cardAt withCard amountOf amountWord isAmount isAddable lowFirst bytesLowFirst amountIn withAmount baseAmount kinds kindUnder word withWord withFields withoutAdds withoutKept newTable hasWrites withReads withBothSets withSets actions hasLiveChild isRecordOf records walkUp isAtOrBelow climbs isUnder hasReadBefore needs isNeeded isFree firstFree freshNumber nextNumber entryAt withEntry queue isQueued isQueuedFailed isQueuedReady isWaiting isHeadReady withEntries withQueue withTail readied withReady keepsPlace withoutBelow isBounded hasWayUp hasTimesIn hasReadInTime hasEndAlone hasPendingWritten isSoundAction mayWait areDistinct queueNumbers isSoundQueue sound meets isMetBy isMetInQueue verdictOf commitSum isCommitOutside isReadOutside areOutside storeCauses earlyCauses lateCauses causesOf causeOf nearest movesUp readSum pairsWith clashesWith clashes least firstClash start orphaned giveTable readAnswer read readTable write writeTable add addTable commit commitTime commitCounter withHeldCard withHeldSum copyOne copiedDown keepTable joinTable committedUnder judged finished leaveWhile leave leaveBoth enterTable enter revealed judgeLeft judge outOfBoth dropped abortLeft abort abortTable act step run
 computing = run
 
 -- the cases of specs/Case.antt: part by part, and all of them
@@ -56,6 +57,10 @@ to-37-hold : Hold casesTo37
 unfolding computing lookCause look resultOf casesTo37
 to-37-hold = refl
 
+to-43-hold : Hold casesTo43
+unfolding computing lookCause look resultOf casesTo43
+to-43-hold = refl
+
 both-hold : (some more : List Case) → Hold some → Hold more → Hold (some ++ more)
 both-hold some more h k = map-append _ some more ∙ ap₂ (λ x y. x ++ y) h k ∙ sym (map-append _ some more)
 
@@ -64,7 +69,8 @@ unfolding cases
 cases-hold =
     let to-25 = both-hold casesTo14 casesTo25 to-14-hold to-25-hold in
     let to-30 = both-hold (casesTo14 ++ casesTo25) casesTo30 to-25 to-30-hold in
-    both-hold (casesTo14 ++ casesTo25 ++ casesTo30) casesTo37 to-30 to-37-hold
+    let to-37 = both-hold (casesTo14 ++ casesTo25 ++ casesTo30) casesTo37 to-30 to-37-hold in
+    both-hold (casesTo14 ++ casesTo25 ++ casesTo30 ++ casesTo37) casesTo43 to-37 to-43-hold
 
 -- the moments of specs/Moments.antt
 pub moments-hold : map moments watched ≡ momentsExpected
@@ -91,5 +97,5 @@ nested-holds = refl
 
 -- the trees of specs/Trees.antt
 pub trees-hold : map treeAfter treeEvents ≡ treesExpected
-unfolding computing flatMap children committedChildren addedUp totalWithin totalOf topSum linesWithin treeLines figuresOf isFigureOutside treeCauses treeCause treeAfter treeEvents treesExpected
+unfolding computing flatMap children linesWithin treeLines isShown figuresOf isFigureOutside treeCauses treeCause treeAfter treeEvents treesExpected
 trees-hold = refl

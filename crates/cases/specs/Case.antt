@@ -1,4 +1,4 @@
--- RULES 13: the worked cases that are proved, in one list of four parts, each of which computes by itself; proofs/Cases.antt proves
+-- RULES 13: the worked cases that are proved, in one list of five parts, each of which computes by itself; proofs/Cases.antt proves
 -- all of them by one theorem. Assumes nothing.
 use Prim.Native.Nat.{ℕ}
 use mathlib.Core.Path.{_≡_}
@@ -50,10 +50,10 @@ pub record Question : Type 0 where
   pub baseAccounts : List ℕ
   pub spots : List Spot
 
--- what it gives: every answer, the actions started, the two counters, and the cards and looks asked for
+-- what it gives: every answer, the highest number, the two counters, and the cards and looks asked for
 pub record Result : Type 0 where
   pub answers : List Answer
-  pub starts : ℕ
+  pub highest : ℕ
   pub tops : ℕ
   pub subs : ℕ
   pub baseCards : List (List ℕ)
@@ -64,7 +64,7 @@ resultOf q =
     let ran = run opening (q .events) in
     record {
       answers = ran .answers;
-      starts = highest (ran .after .table);
+      highest = highest (ran .after .table);
       tops = counter (ran .after .table) topKind;
       subs = counter (ran .after .table) subKind;
       baseCards = map (λ k. cardAt (ran .after .base) (basePlace k)) (q .baseAccounts);
@@ -79,8 +79,8 @@ abbrev asking : List Event → List ℕ → List Spot → Question
 asking es ks spots = record { events = es; baseAccounts = ks; spots = spots }
 
 abbrev giving : List Answer → ℕ → ℕ → ℕ → List (List ℕ) → List Shown → Result
-giving answers starts tops subs baseCards looks =
-    record { answers = answers; starts = starts; tops = tops; subs = subs; baseCards = baseCards; looks = looks }
+giving answers most tops subs baseCards looks =
+    record { answers = answers; highest = most; tops = tops; subs = subs; baseCards = baseCards; looks = looks }
 
 -- action n and account k as a spot
 abbrev at : ℕ → ℕ → Spot
@@ -194,11 +194,11 @@ casesTo25 =
     -- 15
     case
     (asking
-    (startUnder 0 ∷ startUnder 0 ∷ adding 1 24 500 ∷ taking 2 24 200 ∷ commitOf 1 ∷ commitOf 2 ∷ startUnder 0 ∷ readBy 3 24
-    ∷ commitOf 3 ∷ []) (24 ∷ []) [])
+    (startUnder 0 ∷ startUnder 0 ∷ adding 1 24 500 ∷ taking 2 24 200 ∷ commitOf 1 ∷ commitOf 2 ∷ startUnder 0 ∷ readBy 1 24
+    ∷ commitOf 1 ∷ []) (24 ∷ []) [])
     (giving
-    (Started 1 ∷ Started 2 ∷ Added ∷ Added ∷ Committed 1 ∷ Committed 2 ∷ Started 3 ∷ ReadSum 0 1 300
-    ∷ Committed 0 ∷ []) 3 2 0 (amountCard (pos 300) ∷ []) [])
+    (Started 1 ∷ Started 2 ∷ Added ∷ Added ∷ Committed 1 ∷ Committed 2 ∷ Started 1 ∷ ReadSum 0 1 300
+    ∷ Committed 0 ∷ []) 2 2 0 (amountCard (pos 300) ∷ []) [])
     -- 16
     ∷ case
     (asking
@@ -233,19 +233,19 @@ casesTo25 =
     ∷ case
     (asking
     (startUnder 0 ∷ startUnder 1 ∷ readBy 2 3 ∷ writeBy 2 3 (filledWith 1) ∷ commitOf 2 ∷ startUnder 0
-    ∷ writeBy 3 3 (filledWith 2)
-    ∷ commitOf 3 ∷ commitOf 1 ∷ []) (3 ∷ []) [])
+    ∷ writeBy 2 3 (filledWith 2)
+    ∷ commitOf 2 ∷ commitOf 1 ∷ []) (3 ∷ []) [])
     (giving
-    (Started 1 ∷ Started 2 ∷ Read 0 2 ∷ Written ∷ Committed 1 ∷ Started 3 ∷ Written
-    ∷ Committed 1 ∷ Failed 1 3 ∷ []) 3 1 1 (filledWith 2 ∷ []) [])
+    (Started 1 ∷ Started 2 ∷ Read 0 2 ∷ Written ∷ Committed 1 ∷ Started 2 ∷ Written
+    ∷ Committed 1 ∷ Failed 1 3 ∷ []) 2 1 1 (filledWith 2 ∷ []) [])
     -- 21
     ∷ case
     (asking
     (startUnder 0 ∷ writeBy 1 3 (filledWith 1) ∷ startUnder 1 ∷ startUnder 2 ∷ readBy 3 3 ∷ commitOf 3 ∷ startUnder 1
-    ∷ writeBy 4 3 (filledWith 2) ∷ commitOf 4 ∷ commitOf 2 ∷ []) [] [])
+    ∷ writeBy 3 3 (filledWith 2) ∷ commitOf 3 ∷ commitOf 2 ∷ []) [] [])
     (giving
-    (Started 1 ∷ Written ∷ Started 2 ∷ Started 3 ∷ Read 1 2 ∷ Committed 0 ∷ Started 4
-    ∷ Written ∷ Committed 1 ∷ Failed 1 3 ∷ []) 4 0 1 [] [])
+    (Started 1 ∷ Written ∷ Started 2 ∷ Started 3 ∷ Read 1 2 ∷ Committed 0 ∷ Started 3
+    ∷ Written ∷ Committed 1 ∷ Failed 1 3 ∷ []) 3 0 1 [] [])
     -- 22
     ∷ case
     (asking
@@ -263,11 +263,11 @@ casesTo25 =
     ∷ case
     (asking
     (startUnder 0 ∷ writeBy 1 3 (filledWith 1) ∷ startUnder 1 ∷ readBy 2 3 ∷ commitOf 2 ∷ startUnder 0
-    ∷ writeBy 3 3 (filledWith 2)
-    ∷ commitOf 3 ∷ commitOf 1 ∷ []) (3 ∷ []) [])
+    ∷ writeBy 2 3 (filledWith 2)
+    ∷ commitOf 2 ∷ commitOf 1 ∷ []) (3 ∷ []) [])
     (giving
-    (Started 1 ∷ Written ∷ Started 2 ∷ Read 1 1 ∷ Committed 0 ∷ Started 3 ∷ Written
-    ∷ Committed 1 ∷ Committed 2 ∷ []) 3 2 0 (filledWith 1 ∷ []) [])
+    (Started 1 ∷ Written ∷ Started 2 ∷ Read 1 1 ∷ Committed 0 ∷ Started 2 ∷ Written
+    ∷ Committed 1 ∷ Committed 2 ∷ []) 2 2 0 (filledWith 1 ∷ []) [])
     -- 25
     ∷ case
     (asking
@@ -332,20 +332,20 @@ casesTo37 =
     -- 32
     ∷ case
     (asking
-    (startUnder 0 ∷ startUnder 1 ∷ writeBy 2 0 (filledWith 1) ∷ commitOf 2 ∷ startUnder 1 ∷ writeBy 3 0 (filledWith 2)
-    ∷ commitOf 3
-    ∷ startUnder 0 ∷ readBy 4 1 ∷ startUnder 0 ∷ writeBy 5 1 (filledWith 3) ∷ commitOf 5 ∷ commitOf 4 ∷ []) [] [])
+    (startUnder 0 ∷ startUnder 1 ∷ writeBy 2 0 (filledWith 1) ∷ commitOf 2 ∷ startUnder 1 ∷ writeBy 2 0 (filledWith 2)
+    ∷ commitOf 2
+    ∷ startUnder 0 ∷ readBy 2 1 ∷ startUnder 0 ∷ writeBy 3 1 (filledWith 3) ∷ commitOf 3 ∷ commitOf 2 ∷ []) [] [])
     (giving
-    (Started 1 ∷ Started 2 ∷ Written ∷ Committed 1 ∷ Started 3 ∷ Written ∷ Committed 2
-    ∷ Started 4 ∷ Read 0 1 ∷ Started 5 ∷ Written ∷ Committed 1 ∷ Failed 1 1 ∷ []) 5 1 2 [] [])
+    (Started 1 ∷ Started 2 ∷ Written ∷ Committed 1 ∷ Started 2 ∷ Written ∷ Committed 2
+    ∷ Started 2 ∷ Read 0 1 ∷ Started 3 ∷ Written ∷ Committed 1 ∷ Failed 1 1 ∷ []) 3 1 2 [] [])
     -- 33
     ∷ case
     (asking
-    (startUnder 0 ∷ writeBy 1 9 (filledWith 1) ∷ commitOf 1 ∷ startUnder 0 ∷ startUnder 2 ∷ startUnder 2 ∷ readBy 4 0
-    ∷ writeBy 3 0 (filledWith 2) ∷ commitOf 3 ∷ commitOf 4 ∷ []) [] [])
+    (startUnder 0 ∷ writeBy 1 9 (filledWith 1) ∷ commitOf 1 ∷ startUnder 0 ∷ startUnder 1 ∷ startUnder 1 ∷ readBy 3 0
+    ∷ writeBy 2 0 (filledWith 2) ∷ commitOf 2 ∷ commitOf 3 ∷ []) [] [])
     (giving
-    (Started 1 ∷ Written ∷ Committed 1 ∷ Started 2 ∷ Started 3 ∷ Started 4 ∷ Read 0 2
-    ∷ Written ∷ Committed 1 ∷ Failed 1 0 ∷ []) 4 1 1 [] [])
+    (Started 1 ∷ Written ∷ Committed 1 ∷ Started 1 ∷ Started 2 ∷ Started 3 ∷ Read 0 2
+    ∷ Written ∷ Committed 1 ∷ Failed 1 0 ∷ []) 3 1 1 [] [])
     -- 34
     ∷ case
     (asking
@@ -377,5 +377,49 @@ casesTo37 =
     ∷ Started 5 ∷ Read 1 2 ∷ Committed 0 ∷ Committed 0 ∷ Failed 1 6 ∷ []) 5 0 1 [] [])
     ∷ []
 
+-- numbers that are given again
+unfoldable pub casesTo43 : List Case
+casesTo43 =
+    -- 38
+    case
+    (asking
+    (startUnder 0 ∷ abortOf 1 ∷ startUnder 0 ∷ writeBy 1 0 (filledWith 1) ∷ commitOf 1 ∷ startUnder 0 ∷ startUnder 0 ∷ []) [] [])
+    (giving
+    (Started 1 ∷ Aborted 1 0 ∷ Started 1 ∷ Written ∷ Committed 1 ∷ Started 1 ∷ Started 2 ∷ []) 2 1 0 [] [])
+    -- 39
+    ∷ case
+    (asking
+    (startUnder 0 ∷ readBy 1 5 ∷ startUnder 0 ∷ writeBy 2 0 (filledWith 1) ∷ commitOf 2 ∷ startUnder 0 ∷ commitOf 1
+    ∷ startUnder 0 ∷ startUnder 0 ∷ []) [] [])
+    (giving
+    (Started 1 ∷ Read 0 1 ∷ Started 2 ∷ Written ∷ Committed 1 ∷ Started 3 ∷ Committed 0
+    ∷ Started 1 ∷ Started 2 ∷ []) 3 1 0 [] [])
+    -- 40
+    ∷ case
+    (asking
+    (startUnder 0 ∷ startUnder 0 ∷ startUnder 1 ∷ writeBy 2 0 (filledWith 1) ∷ readBy 3 0 ∷ commitOf 2 ∷ startUnder 0
+    ∷ commitOf 3 ∷ commitOf 1 ∷ []) [] [])
+    (giving
+    (Started 1 ∷ Started 2 ∷ Started 3 ∷ Written ∷ Read 0 2 ∷ Committed 1 ∷ Started 4
+    ∷ Committed 0 ∷ Failed 1 0 ∷ []) 4 1 0 [] [])
+    -- 41
+    ∷ case
+    (asking (startUnder 0 ∷ startUnder 0 ∷ abortOf 1 ∷ startUnder 2 ∷ startUnder 2 ∷ []) [] [])
+    (giving (Started 1 ∷ Started 2 ∷ Aborted 1 0 ∷ Started 1 ∷ Started 3 ∷ []) 3 0 0 [] [])
+    -- 42
+    ∷ case
+    (asking
+    (startUnder 0 ∷ startUnder 0 ∷ writeBy 1 0 (filledWith 1) ∷ enterOf 1 ∷ enterOf 2 ∷ judgeOf 1 ∷ startUnder 0
+    ∷ writeBy 1 0 (filledWith 2) ∷ enterOf 1 ∷ judgeOf 2 ∷ judgeOf 1 ∷ []) (0 ∷ []) [])
+    (giving
+    (Started 1 ∷ Started 2 ∷ Written ∷ Entered ∷ Entered ∷ Ready 1 ∷ Started 1
+    ∷ Written ∷ Entered ∷ Ready 1 ∷ Ready 1 ∷ []) 2 2 0 (filledWith 2 ∷ []) [])
+    -- 43
+    ∷ case
+    (asking
+    (startUnder 0 ∷ startUnder 0 ∷ writeBy 1 0 (filledWith 1) ∷ commitOf 1 ∷ readBy 2 3 ∷ startUnder 0 ∷ []) [] [])
+    (giving (Started 1 ∷ Started 2 ∷ Written ∷ Committed 1 ∷ Read 0 1 ∷ Started 1 ∷ []) 2 1 0 [] [])
+    ∷ []
+
 unfoldable pub cases : List Case
-cases = casesTo14 ++ casesTo25 ++ casesTo30 ++ casesTo37
+cases = casesTo14 ++ casesTo25 ++ casesTo30 ++ casesTo37 ++ casesTo43

@@ -1,6 +1,6 @@
--- One list worked through as a serial run: a child that commits stands at its commit, one that gives up is nowhere; what was
--- added is seen by who adds and settled at the end, where the topaction commits by leaving its queue. proofs/Cases.antt computes
--- it. Assumes nothing.
+-- One list worked through as a serial run: a child that commits stands at its commit, one that gives up is nowhere, though it is
+-- given the same number; what was added is seen by who adds and settled at the end, where the topaction commits by leaving its
+-- queue. proofs/Cases.antt computes it. Assumes nothing.
 use Prim.Native.Nat.{ℕ}
 use mathlib.Core.Option.{none, some}
 use mathlib.Core.List.{List, [], _∷_}
@@ -24,11 +24,11 @@ example =
     ∷ taking 2 24 30
     ∷ readBy 2 24
     ∷ commitOf 2
-    -- its child 3 writes and adds too, and gives up
+    -- its next child, which is given number 2 again, writes and adds too, and gives up
     ∷ startUnder 1
-    ∷ writeBy 3 0 (filledWith 9)
-    ∷ adding 3 24 9
-    ∷ abortOf 3
+    ∷ writeBy 2 0 (filledWith 9)
+    ∷ adding 2 24 9
+    ∷ abortOf 2
     -- 1 reads both again, waits to be judged, and commits as it leaves its queue
     ∷ readBy 1 0
     ∷ readBy 1 24
@@ -44,7 +44,7 @@ unfoldable pub toldExpected : List Told
 toldExpected =
     itBegan 1 ∷ itRead ∷ itAdded
     ∷ itBegan 2 ∷ itWrote ∷ itAdded ∷ itRead ∷ itCommitted
-    ∷ itBegan 3 ∷ itWrote ∷ itAdded ∷ itLetLeave []
+    ∷ itBegan 2 ∷ itWrote ∷ itAdded ∷ itLetLeave []
     ∷ itRead ∷ itRead ∷ itDidNothing ∷ itLetLeave (1 ∷ [])
     ∷ []
 

@@ -1,5 +1,5 @@
--- One list worked through for R: an action is in R where it committed and all above it did. proofs/Cases.antt computes it.
--- Assumes nothing.
+-- One list worked through for R: an action is in R where it committed and all above it did, whoever has its number or theirs
+-- later. proofs/Cases.antt computes it. Assumes nothing.
 use mathlib.Core.Bool.{Bool, true, false}
 use mathlib.Core.List.{List, [], _∷_, map}
 use Rattle.rules.specs.Range.{upFrom}
@@ -11,23 +11,24 @@ use Rattle.cases.specs.Case.{opening}
 
 unfoldable pub nested : List Event
 nested =
-    -- 1 commits at the end; 2 under it commits by leaving its queue, after 3 under 2 has committed
+    -- the first, number 1, commits at the end; the second, 2 under it, commits by leaving its queue, after the third, 3 under 2,
+    -- has committed
     startUnder 0
     ∷ startUnder 1
     ∷ startUnder 2
     ∷ commitOf 3
     ∷ enterOf 2
     ∷ judgeOf 2
-    -- 4 under 1 gives up
+    -- the fourth, under 1 and given 2 again, gives up
     ∷ startUnder 1
-    ∷ abortOf 4
-    -- 5 under 1 gives up too, after 6 under it has committed
+    ∷ abortOf 2
+    -- the fifth, under 1 and given 2 again, gives up too, after the sixth, under it and given 3 again, has committed
     ∷ startUnder 1
-    ∷ startUnder 5
-    ∷ commitOf 6
-    ∷ abortOf 5
+    ∷ startUnder 2
+    ∷ commitOf 3
+    ∷ abortOf 2
     ∷ commitOf 1
-    -- 7 is still live
+    -- the seventh, given 1 again, is still live
     ∷ startUnder 0
     ∷ []
 

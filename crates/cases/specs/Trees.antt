@@ -1,5 +1,6 @@
--- RULES 13: the trees that are worked through: an empty day, a day of two runs and a batch that gave up, and a run that gave up
--- with all below it. Assumes nothing.
+-- RULES 13: the trees that are worked through: an empty day, a day of two runs and a batch that gave up, a run that gave up with
+-- all below it, and three in which a number is given again: to a batch after another, to a run after one that has a batch held,
+-- and to a batch after a run. Assumes nothing.
 use Prim.Native.Nat.{ℕ}
 use mathlib.Core.List.{List, [], _∷_, _++_, map}
 use lib.IntN.{ℤ, pos, negℤ}
@@ -56,32 +57,42 @@ none n = replicate n (pos 0)
 abbrev untouched : ℕ → List (List ℤ)
 untouched n = replicate n (none 3)
 
+-- the last block where no account changes
+abbrev unchanged : List (List ℤ)
+unchanged = (pos 1000 ∷ pos 0 ∷ pos 1000 ∷ []) ∷ untouched 6 ++ (negℤ (pos 5) ∷ pos 0 ∷ negℤ (pos 5) ∷ []) ∷ []
+
 -- the events of each, and the trees that they give
 unfoldable pub treeEvents : List (List Event)
 treeEvents =
     []
-    ∷ (startUnder 0 ∷ adding 1 24 500
-    ∷ startUnder 1 ∷ taking 2 24 200 ∷ adding 2 31 7 ∷ commitOf 2
-    ∷ startUnder 1 ∷ adding 3 24 40 ∷ abortOf 3 ∷ commitOf 1
-    ∷ startUnder 0 ∷ adding 4 25 9 ∷ startUnder 4 ∷ taking 5 25 2 ∷ commitOf 5
-    ∷ startUnder 0 ∷ commitOf 6 ∷ [])
+    ∷ (startUnder 0 ∷ startUnder 0 ∷ startUnder 0 ∷ adding 1 24 500 ∷ startUnder 1 ∷ startUnder 1 ∷ adding 2 25 9 ∷ startUnder 2
+    ∷ taking 4 24 200 ∷ adding 4 31 7 ∷ commitOf 4 ∷ adding 5 24 40 ∷ abortOf 5 ∷ commitOf 1
+    ∷ taking 6 25 2 ∷ commitOf 6 ∷ commitOf 3 ∷ [])
     ∷ (startUnder 0 ∷ adding 1 24 5 ∷ startUnder 1 ∷ adding 2 24 7 ∷ startUnder 2 ∷ adding 3 25 1 ∷ abortOf 1 ∷ commitOf 2 ∷ [])
+    ∷ (startUnder 0 ∷ startUnder 1 ∷ adding 2 24 5 ∷ commitOf 2 ∷ startUnder 1 ∷ adding 2 25 7 ∷ [])
+    ∷ (startUnder 0 ∷ startUnder 1 ∷ startUnder 1 ∷ adding 3 24 5 ∷ commitOf 3 ∷ abortOf 1 ∷ startUnder 0 ∷ [])
+    ∷ (startUnder 0 ∷ startUnder 0 ∷ adding 1 24 5 ∷ commitOf 1 ∷ abortOf 2 ∷ startUnder 0 ∷ startUnder 1 ∷ adding 2 24 2 ∷ [])
     ∷ []
 
 unfoldable pub treesExpected : List Tree
 treesExpected =
-    tree [] ((pos 1000 ∷ pos 0 ∷ pos 1000 ∷ []) ∷ untouched 6 ++ (negℤ (pos 5) ∷ pos 0 ∷ negℤ (pos 5) ∷ []) ∷ [])
+    tree [] unchanged
     ∷ tree
     (row 0 1 committed (pos 500 ∷ pos 300 ∷ none 13 ++ pos 7 ∷ [])
-    ∷ row 1 2 committed (negℤ (pos 200) ∷ negℤ (pos 200) ∷ none 12 ++ pos 7 ∷ pos 7 ∷ [])
-    ∷ row 1 3 aborted (pos 40 ∷ pos 40 ∷ none 14)
-    ∷ row 0 4 live (pos 0 ∷ pos 0 ∷ pos 9 ∷ pos 7 ∷ none 12)
-    ∷ row 1 5 committed (pos 0 ∷ pos 0 ∷ negℤ (pos 2) ∷ negℤ (pos 2) ∷ none 12)
-    ∷ row 0 6 committed (none 16) ∷ [])
+    ∷ row 1 4 committed (negℤ (pos 200) ∷ negℤ (pos 200) ∷ none 12 ++ pos 7 ∷ pos 7 ∷ [])
+    ∷ row 1 5 aborted (pos 40 ∷ pos 40 ∷ none 14)
+    ∷ row 0 2 live (pos 0 ∷ pos 0 ∷ pos 9 ∷ pos 7 ∷ none 12)
+    ∷ row 1 6 committed (pos 0 ∷ pos 0 ∷ negℤ (pos 2) ∷ negℤ (pos 2) ∷ none 12)
+    ∷ row 0 3 committed (none 16) ∷ [])
     ((pos 1000 ∷ pos 300 ∷ pos 1300 ∷ []) ∷ untouched 6 ++ (negℤ (pos 5) ∷ pos 7 ∷ pos 2 ∷ []) ∷ [])
     ∷ tree
     (row 0 1 aborted (pos 5 ∷ pos 5 ∷ none 14)
     ∷ row 1 2 aborted (pos 7 ∷ pos 7 ∷ none 14)
     ∷ row 2 3 aborted (pos 0 ∷ pos 0 ∷ pos 1 ∷ pos 1 ∷ none 12) ∷ [])
-    ((pos 1000 ∷ pos 0 ∷ pos 1000 ∷ []) ∷ untouched 6 ++ (negℤ (pos 5) ∷ pos 0 ∷ negℤ (pos 5) ∷ []) ∷ [])
+    unchanged
+    ∷ tree (row 0 1 live (pos 0 ∷ pos 5 ∷ none 14) ∷ row 1 2 live (pos 0 ∷ pos 0 ∷ pos 7 ∷ pos 7 ∷ none 12) ∷ []) unchanged
+    ∷ tree (row 0 1 live (none 16) ∷ []) unchanged
+    ∷ tree
+    (row 0 1 live (none 16) ∷ row 1 2 live (pos 2 ∷ pos 2 ∷ none 14) ∷ [])
+    ((pos 1000 ∷ pos 5 ∷ pos 1005 ∷ []) ∷ untouched 6 ++ (negℤ (pos 5) ∷ pos 0 ∷ negℤ (pos 5) ∷ []) ∷ [])
     ∷ []

@@ -16,7 +16,7 @@ use Rattle.rules.specs.Cause.{Cause, firstCause, isStoreLengthWrong, queueCause
 use Rattle.rules.proofs.Laws.Tests.{and-left, and-right, test, cond-holds}
 use Rattle.rules.proofs.Laws.Allowed.{not-given, stores-fit}
 use Rattle.rules.proofs.Sound.Soundness.{facts, tested}
-use Rattle.causes.specs.Groups.{startCauses, writeCauses, addCauses, cardCauses, busyCauses, accountCauses, commitCauses, judgeCauses, kindCauses}
+use Rattle.causes.specs.Groups.{startCauses, writeCauses, addCauses, cardCauses, busyCauses, accountCauses, timeCauses, enterCauses, commitCauses, judgeCauses, kindCauses}
 
 -- ---- causes, and others behind them
 
@@ -134,7 +134,7 @@ module _ (w : List ℕ) (e : Event) (known : e .number ≤ highest w) where
   pub causes-of-kind :
       (startCode ≤ e .code) × (e .code ≤ judgeCode) → e .code ≢ startCode → e .number ≢ 0 → isLive w (e .number) ≡ true →
       firstCause (earlyCauses w e) ≡ firstCause (kindCauses w e)
-  unfolding earlyCauses kindCauses accountCauses cardCauses writeCauses addCauses busyCauses commitCauses judgeCauses
+  unfolding earlyCauses kindCauses accountCauses cardCauses writeCauses addCauses busyCauses timeCauses enterCauses commitCauses judgeCauses
   causes-of-kind code other named alive =
       rw (
         le-leb startCode (e .code) (code .0),
@@ -172,15 +172,31 @@ module _ (w : List ℕ) (e : Event) (account : e .account < accountCount) where
   card-passed none =
       account-known ∙ front-passed ofCard ofBusy (card-causes-numbered (e .code) (e .account) (e .card)) none
 
--- of a commit those of a busy action are asked first, and then that of its queue
+-- of an enter and of a commit those of a busy action are asked first
 module _ (w : List ℕ) (n : ℕ) where
+  busy-given : (cs : List Cause) → firstCause (busyCauses w n) ≢ 0 → firstCause (busyCauses w n ++ cs) ≡ firstCause (busyCauses w n)
+  busy-given cs given = front-given (busyCauses w n) cs given
+
+  busy-passed : (cs : List Cause) → firstCause (busyCauses w n) ≡ 0 → firstCause (busyCauses w n ++ cs) ≡ firstCause cs
+  unfolding busyCauses
+  busy-passed cs none = front-passed (busyCauses w n) cs refl none
+
+  pub enter-refused : firstCause (busyCauses w n) ≢ 0 → firstCause (enterCauses w n) ≡ firstCause (busyCauses w n)
+  unfolding enterCauses
+  enter-refused = busy-given (timeCauses w n)
+
+  pub enter-passed : firstCause (busyCauses w n) ≡ 0 → firstCause (enterCauses w n) ≡ firstCause (timeCauses w n)
+  unfolding enterCauses
+  enter-passed = busy-passed (timeCauses w n)
+
+  -- .. and of a commit then that of its queue
   abbrev ofQueue : List Cause
-  ofQueue = record { number = queueCause; applies = isOvertaking w true n } ∷ []
+  ofQueue = record { number = queueCause; applies = isOvertaking w true n } ∷ timeCauses w n
 
-  pub busy-refused : firstCause (busyCauses w n) ≢ 0 → firstCause (commitCauses w n) ≡ firstCause (busyCauses w n)
+  pub commit-refused : firstCause (busyCauses w n) ≢ 0 → firstCause (commitCauses w n) ≡ firstCause (busyCauses w n)
   unfolding commitCauses
-  busy-refused given = front-given (busyCauses w n) ofQueue given
+  commit-refused = busy-given ofQueue
 
-  pub busy-passed : firstCause (busyCauses w n) ≡ 0 → firstCause (commitCauses w n) ≡ firstCause ofQueue
-  unfolding commitCauses busyCauses
-  busy-passed none = front-passed (busyCauses w n) ofQueue refl none
+  pub commit-passed : firstCause (busyCauses w n) ≡ 0 → firstCause (commitCauses w n) ≡ firstCause ofQueue
+  unfolding commitCauses
+  commit-passed = busy-passed ofQueue

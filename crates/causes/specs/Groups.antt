@@ -6,7 +6,7 @@ use mathlib.Core.List.{List, [], _∷_, _++_}
 use lib.Dec.{eqb}
 use Rattle.rules.specs.Card.{isCharge}
 use Rattle.rules.specs.Event.{Event, writeCode, addCode, isCommit, isAbort, isEnter, isJudge}
-use Rattle.rules.specs.Cause.{Cause, notLiveCause, isNotLive, tableFullCause, isTableFull, accountCause, isAccountUnknown, cardLengthCause, isCardLengthWrong, kindCause, amountCause, isAmountTooLarge, childLiveCause, isChildLive, queuedCause, isQueuedAlready, judgeCause, isJudgeVain, queueCause, isOvertaking}
+use Rattle.rules.specs.Cause.{Cause, notLiveCause, isNotLive, tableFullCause, isTableFull, accountCause, isAccountUnknown, cardLengthCause, isCardLengthWrong, kindCause, amountCause, isAmountTooLarge, childLiveCause, isChildLive, queuedCause, isQueuedAlready, judgeCause, isJudgeVain, queueCause, isOvertaking, timeCause, isTimeSpent}
 
 -- of a start under a number that is known
 unfoldable pub startCauses : List ℕ → ℕ → List Cause
@@ -49,9 +49,17 @@ accountCauses w e =
     ∷ cardCauses (e .code) (e .account) (e .card)
     ++ busyCauses w (e .number)
 
+-- of an action for which no end time is left
+unfoldable pub timeCauses : List ℕ → ℕ → List Cause
+timeCauses w n = record { number = timeCause; applies = isTimeSpent w true n } ∷ []
+
+-- of an enter
+unfoldable pub enterCauses : List ℕ → ℕ → List Cause
+enterCauses w n = busyCauses w n ++ timeCauses w n
+
 -- of a commit
 unfoldable pub commitCauses : List ℕ → ℕ → List Cause
-commitCauses w n = busyCauses w n ++ (record { number = queueCause; applies = isOvertaking w true n } ∷ [])
+commitCauses w n = busyCauses w n ++ (record { number = queueCause; applies = isOvertaking w true n } ∷ timeCauses w n)
 
 -- of a judge
 unfoldable pub judgeCauses : List ℕ → ℕ → List Cause
@@ -63,4 +71,4 @@ kindCauses w e =
     cond (isAbort e) []
     (cond (isJudge e) (judgeCauses w (e .number))
     (cond (isCommit e) (commitCauses w (e .number))
-    (cond (isEnter e) (busyCauses w (e .number)) (accountCauses w e))))
+    (cond (isEnter e) (enterCauses w (e .number)) (accountCauses w e))))

@@ -8,10 +8,13 @@ ghost use Rattle.rules.specs.Cause.{firstCause, storeCauses, earlyCauses};
 ghost use Rattle.causes.specs.Groups.{startCauses, kindCauses, accountCauses, cardCauses, writeCauses, addCauses};
 use crate::busy::busy_cause;
 use crate::busy::commit_cause;
+use crate::busy::enter_cause;
 use crate::busy::judge_cause;
 use crate::busy::queued_cause;
 use amounts::bytes::word_at;
 use amounts::limit::is_addable;
+use numbers::free::NO_NUMBER;
+use numbers::free::next_number;
 use rows::fields::highest;
 use rows::fields::is_live;
 use rules::amount::AMOUNT_AT;
@@ -22,7 +25,6 @@ use rules::store::BASE_LENGTH;
 use rules::store::CARD_LENGTH;
 use rules::store::FIRST_CHARGE;
 use rules::store::SHADOW_LENGTH;
-use rules::table::MOST_ACTIONS;
 use rules::table::STORE;
 use soundness::sound::is_sound;
 
@@ -79,7 +81,7 @@ fn start_cause(table: &[u64], number: u64) -> u64
             return cause::NOT_LIVE;
         }
     }
-    if MOST_ACTIONS <= highest(table) {
+    if next_number(table) == NO_NUMBER {
         return cause::TABLE_FULL;
     }
     queued_cause(table, number)
@@ -101,7 +103,7 @@ fn kind_cause(table: &[u64], code: u64, number: u64, account: u64, card: &[u8]) 
         return commit_cause(table, number);
     }
     if code == event::ENTER {
-        return busy_cause(table, number);
+        return enter_cause(table, number);
     }
     account_cause(table, code, number, account, card)
 }

@@ -1,3 +1,4 @@
 -- Facts that the proofs of a commit use.
 mod FittingSums
+mod Keeping
 mod NextTurn

@@ -6,7 +6,7 @@ use mathlib.Core.List.{List}
 use lib.IntN.{_+ℤ_}
 use Rattle.rules.specs.Card.{IsCharge}
 use Rattle.rules.specs.Amount.{isAmount}
-use Rattle.rules.specs.Table.{mostActions, hasWritten, pendingSum}
+use Rattle.rules.specs.Table.{mostActions, hasWritten, pendingSum, keptAfter}
 use Rattle.rules.specs.Held.{heldSum}
 
 -- RULES 4.8: the number of the store or of an action, either of which holds what is copied to it
@@ -24,3 +24,11 @@ SumFits w base n p k = IsCharge k → hasWritten w n k ≡ true → MakesAmount 
 -- RULES 8.4: the same of every account
 abbrev pub SumsFit : List ℕ → List ℕ → ℕ → ℕ → Type 0
 SumsFit w base n p = (k : ℕ) → SumFits w base n p k
+
+-- RULES 8.4: what is kept in row p for charge account k is an amount once n's total is added
+abbrev pub KeepsAmount : List ℕ → ℕ → ℕ → ℕ → Type 0
+KeepsAmount w n p k = isAmount (keptAfter w n p k) ≡ true
+
+-- RULES 8.4: the same of every charge account
+abbrev pub KeptFit : List ℕ → ℕ → ℕ → Type 0
+KeptFit w n p = (k : ℕ) → IsCharge k → KeepsAmount w n p k

@@ -3,7 +3,7 @@ ghost use mathlib.Core.Path.{_≡_};
 ghost use Rattle.rules.specs.Card.{StoresFit};
 ghost use Rattle.rules.specs.Table.{parentOf};
 ghost use Rattle.rules.specs.Ledger.{ledgerOf};
-ghost use Rattle.rules.specs.Sound.{IsGiven, Sound};
+ghost use Rattle.rules.specs.Sound.{IsLiveAction, Sound};
 ghost use mathlib.Core.Bool.{false};
 ghost use Rattle.rules.specs.Cause.{isCommitOutside};
 ghost use Rattle.rules.specs.Clash.{firstClash};
@@ -13,6 +13,7 @@ ghost use Rattle.rules.specs.Step.{outcomeOf, commit};
 ghost use Rattle.commits.specs.Outside.{unlessOutside};
 use crate::copy::copy_down;
 use crate::end::end;
+use crate::kept::keep_totals;
 use crate::sums::is_outside;
 use rows::fields::parent;
 use rows::fields::set_state;
@@ -24,10 +25,11 @@ use rules::table::ABORTED;
 use rules::table::STORE;
 use validation::search::first_clash;
 
-// A commit that passes: the copies, the end, and the sets for a parent that is an action. Back comes the end time.
+// A commit that passes: the copies, the end, the kept sums, and the sets for a parent that is an action. Back comes the end
+// time.
 pub(crate) fn pass(table: &mut [u64], base: &mut [u8], shadow: &mut [u8], n: u64) -> u64
     requires { ⌜ Sound (now table) ⌝ }
-    requires { ⌜ IsGiven (now table) n ⌝ }
+    requires { ⌜ IsLiveAction (now table) n ⌝ }
     requires { ⌜ StoresFit (now base) (now shadow) ⌝ }
     requires { ⌜ isCommitOutside (now table) (now base) n Nothing ≡ false ⌝ }
     ensures time { λ r. ⌜ r ≡ commitTime (now (table .entry)) n ⌝ }
@@ -38,6 +40,7 @@ pub(crate) fn pass(table: &mut [u64], base: &mut [u8], shadow: &mut [u8], n: u64
     let p = parent(table, n);
     copy_down(table, base, shadow, n, p);
     let time = end(table, n);
+    keep_totals(table, n, p);
     if p != STORE {
         join_sets(table, n, p);
     }
@@ -47,7 +50,7 @@ pub(crate) fn pass(table: &mut [u64], base: &mut [u8], shadow: &mut [u8], n: u64
 // Failed, refused where a sum is no amount, or passed.
 pub fn commit(table: &mut [u64], base: &mut [u8], shadow: &mut [u8], n: u64) -> Answer
     requires { ⌜ Sound (now table) ⌝ }
-    requires { ⌜ IsGiven (now table) n ⌝ }
+    requires { ⌜ IsLiveAction (now table) n ⌝ }
     requires { ⌜ StoresFit (now base) (now shadow) ⌝ }
     ensures { λ r. ⌜ outcomeOf r (now (table .exit)) (now (base .exit)) (now (shadow .exit))
         ≡ unlessOutside (isCommitOutside (now (table .entry)) (now (base .entry)) n (firstClash (now (table .entry)) n))

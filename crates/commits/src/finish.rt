@@ -2,7 +2,7 @@
 ghost use mathlib.Core.Path.{_≡_};
 ghost use Rattle.rules.specs.Card.{StoresFit};
 ghost use Rattle.rules.specs.Ledger.{ledgerOf};
-ghost use Rattle.rules.specs.Sound.{IsGiven, Sound};
+ghost use Rattle.rules.specs.Sound.{IsLiveAction, Sound};
 ghost use Rattle.rules.specs.Cause.{isCommitOutside};
 ghost use Rattle.rules.specs.declared.Found.the-variants.{Nothing};
 ghost use Rattle.rules.specs.Step.{finished};
@@ -13,7 +13,7 @@ use rules::table::ABORTED;
 
 pub fn finish(table: &mut [u64], base: &mut [u8], shadow: &mut [u8], n: u64)
     requires { ⌜ Sound (now table) ⌝ }
-    requires { ⌜ IsGiven (now table) n ⌝ }
+    requires { ⌜ IsLiveAction (now table) n ⌝ }
     requires { ⌜ StoresFit (now base) (now shadow) ⌝ }
     ensures { λ r. ⌜ ledgerOf (now (table .exit)) (now (base .exit)) (now (shadow .exit))
         ≡ finished (ledgerOf (now (table .entry)) (now (base .entry)) (now (shadow .entry))) n

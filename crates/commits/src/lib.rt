@@ -4,5 +4,6 @@ mod copy;
 mod end;
 pub mod finish;
 mod held;
+mod kept;
 mod sums;
 mod turn;

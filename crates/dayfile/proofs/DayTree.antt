@@ -17,9 +17,9 @@ use Rattle.rules.specs.Ledger.{Ledger, ledgerOf}
 use Rattle.rules.specs.Encoding.{eventsIn}
 use Rattle.rules.specs.Tree.{treeLines, reportLength, withReport, Report, reportOf, report}
 use Rattle.rules.proofs.Laws.Allowed.{not-given}
-use Rattle.rules.proofs.Tree.Lines.{line-for-each, line-placed}
-use Rattle.rules.proofs.Tree.Theorem.{reported-of-few}
-use Rattle.report.proofs.Causes.{reportable, totals-are}
+use Rattle.rules.proofs.Tree.Lines.{no-more-lines, line-placed}
+use Rattle.rules.proofs.Tree.Theorem.{balanced}
+use Rattle.report.proofs.Causes.{reportable}
 use Rattle.dayread.specs.File.{eventBytes}
 use Rattle.dayread.specs.Opening.{openingBase}
 use Rattle.listing.specs.Listing.{refusedLine}
@@ -32,7 +32,7 @@ use Rattle.listing.proofs.TreePieces.{tree-fits}
 use Rattle.listing.proofs.TreeText.{text-of-report}
 use Rattle.dayfile.specs.Day.{dayCause, Accepts, dayRun}
 use Rattle.dayfile.specs.Tree.{dayTreeCause, HasReport, dayTree, treeOfDay, DayTree, dayTreeOf, runDayTree}
-use Rattle.dayfile.proofs.Days.{accepts, events-few}
+use Rattle.dayfile.proofs.Days.{accepts}
 
 -- ---- a table that has a report
 
@@ -41,7 +41,7 @@ module _ (w base shadow opening : List ℕ) (has : HasReport w base shadow openi
   pub lines-few : length (treeLines w) ≤ mostActions
   lines-few =
       let sound = reportable w base shadow opening has .accepted .1 in
-      omega (arith, line-for-each sound, sound .few)
+      omega (arith, no-more-lines sound, sound .few)
 
   -- what the report gives back
   reported :
@@ -67,8 +67,8 @@ module _ (w base shadow opening : List ℕ) (has : HasReport w base shadow openi
         let may = reportable w base shadow opening has in
         rw (words-given, lines-given)
         (text-of-report buffer w base opening whole lines-few
-        (λ line in-tree k charge. totals-are w base shadow opening may (line .number) k (line-placed (may .accepted .1) line in-tree .0) charge)
-        (may .fit .sums))
+        (λ line in-tree k charge.
+        let placed = line-placed w line in-tree in may .fit .totals (line .number) k (placed .0, placed .1) charge))
 
   -- the text fits the buffer
   pub tree-text-fits : length (treeText w base opening) ≤ listingLength
@@ -89,13 +89,13 @@ module _ (s : Ledger) (opening file : List ℕ) where
       let (right, passed) = not-given (not (eqb (length opening) baseLength)) _ _ none in
       (eqb-true _ _ (not-false _ right), passed)
 
-  -- a day has too few events for a figure that is no amount
+  -- every figure after a day is an amount
   pub day-reported :
       Accepts s file → length (openingBase file) ≡ baseLength →
       let after = dayRun (s .shadow) file .after in
       HasReport (after .table) (after .base) (after .shadow) (openingBase file)
   unfolding dayRun
-  day-reported a opens = reported-of-few (openingBase file) (s .shadow) opens (a .shadowFits) (eventsIn (eventBytes file)) (events-few s file a)
+  day-reported a opens = balanced (openingBase file) (s .shadow) opens (a .shadowFits) (eventsIn (eventBytes file)) .reported
 
   -- what the call gives back, refused or run
   pub tree-refused :

@@ -1,20 +1,20 @@
 -- A day that isn't refused: the list call runs its events, and what it leaves is what the day's definition says. Assumes
 -- nothing.
-use Prim.Native.Nat.{ℕ, zero, suc, _+_, _-_, _*_, _/_, _≤_}
+use Prim.Native.Nat.{ℕ, zero, suc, _-_, _*_, _/_, _≤_}
 use native.Mathlib.Nat.{le-of-eq}
 use native.Mathlib.Omega.{arith}
 use native.Mathlib.Decide.{ℕ-discrete}
 use mathlib.Core.Path.{_≡_, refl, sym, ap, _∙_}
 use mathlib.Core.Logic.{_≢_}
 use mathlib.Core.Bool.{not}
-use mathlib.Core.List.{List, [], _∷_, _++_}
+use mathlib.Core.List.{List, [], _∷_}
 use borrow.Author.Tests.{eqb-true, eq-eqb, ne-eqb, not-false}
 use lib.Dec.{eqb}
 use lib.ListN.{length, take, drop, replicate, length-append, length-drop, length-replicate}
 use lib.Seq.{take-all}
 use Rattle.rules.specs.Card.{baseLength}
 use Rattle.rules.specs.Kind.{topKind, subKind}
-use Rattle.rules.specs.Table.{tableLength, newTable, highest, counter}
+use Rattle.rules.specs.Table.{tableLength, newTable, counter}
 use Rattle.rules.specs.Cause.{isStoreLengthWrong}
 use Rattle.rules.specs.Event.{Event}
 use Rattle.rules.specs.Ledger.{Ledger, ledgerOf}
@@ -30,11 +30,11 @@ use Rattle.lists.proofs.ListRun.{no-list-cause}
 use Rattle.dayread.specs.File.{eventCount, eventBytes, eventsPlace}
 use Rattle.dayread.specs.Opening.{openingBase}
 use Rattle.dayfile.specs.Day.{dayCause, Accepts, HasAnswerRoom, dayRun, dayWords, dayLedger, dayLines, listing, Day, dayOf, runDay}
-use Rattle.listing.specs.Listing.{lastLine, refusedLine}
-use Rattle.listing.specs.Buffer.{listingLength, putAt, listingOf}
+use Rattle.listing.specs.Listing.{refusedLine}
+use Rattle.listing.specs.Buffer.{listingLength, putAt, startsFrom, listingOf}
 use Rattle.listing.proofs.Texts.{putAt-length}
 use Rattle.listing.proofs.Bounds.{listing-fits, refused-fits}
-use Rattle.listing.proofs.AnswerLines.{lines-of-answers}
+use Rattle.listing.proofs.AnswerLines.{listing-of-answers}
 use Rattle.dayread.proofs.Faultless.{faultless}
 
 pub accepts : (s : Ledger) (file : List ℕ) → dayCause s file ≡ 0 → Accepts s file
@@ -108,12 +108,6 @@ answers-length s file a =
     let many : length (eventBytes file) / eventLength ≡ eventCount file = omega (arith, long) in
     run-length _ _ ∙ events-length (eventBytes file) 0 _ ∙ many
 
--- no more events than a day file may have
-pub events-few : (s : Ledger) (file : List ℕ) → Accepts s file → length (eventsIn (eventBytes file)) ≤ mostEvents
-unfolding dayRun
-events-few s file a =
-    omega (arith, run-length (ledgerOf newTable (openingBase file) (s .shadow)) (eventsIn (eventBytes file)), answers-length s file a, faultless file (a .clean) .fewEvents)
-
 -- ---- the listing and the state of a day, refused or run
 
 pub day-refused :
@@ -133,18 +127,15 @@ pub day-lines :
     (s : Ledger) (file buffer : List ℕ) → Accepts s file → {words table : List ℕ} {count : ℕ} →
     words ≡ dayWords (s .shadow) file buffer → count ≡ eventCount file → table ≡ dayRun (s .shadow) file .after .table →
     listingOf words count table ≡ dayLines (s .shadow) file
-unfolding dayWords dayLines listingOf
+unfolding dayWords dayLines
 day-lines s file buffer a isWords isCount isTable =
     rw (isWords, isCount ∙ sym (answers-length s file a), isTable)
-    (ap (λ (lines : List ℕ). lines ++ lastLine (now .table)) (lines-of-answers (dayRun (s .shadow) file .answers) _))
-  where
-    now : Ledger
-    now = dayRun (s .shadow) file .after
+    (listing-of-answers (dayRun (s .shadow) file .answers) _ _)
 
 lines-bound : (words table : List ℕ) (count : ℕ) → count ≤ mostEvents → length (listingOf words count table) ≤ listingLength
 unfolding listingOf
 lines-bound words table count few =
-    rw length-append (listing-fits words count (highest table) (counter table topKind) (counter table subKind) few)
+    rw length-append (listing-fits words count (startsFrom words 0 count) (counter table topKind) (counter table subKind) few)
 
 listing-bound : (s : Ledger) (file : List ℕ) → length (listing s file) ≤ listingLength
 listing-bound s file = go (ℕ-discrete (dayCause s file) 0)

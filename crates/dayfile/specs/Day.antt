@@ -52,7 +52,7 @@ dayLedger s file = cond (eqb (dayCause s file) 0) (dayRun (s .shadow) file .afte
 unfoldable pub dayLines : List ℕ → List ℕ → List ℕ
 dayLines shadow file =
     let ran = dayRun shadow file in
-    answerLines 1 (ran .answers) ++ lastLine (ran .after .table)
+    answerLines 1 (ran .answers) ++ lastLine (ran .answers) (ran .after .table)
 
 -- the listing of a day
 unfoldable pub listing : Ledger → List ℕ → List ℕ

@@ -20,6 +20,8 @@ fn print_cases() {
     print_day(b"case-14.day");
     print_day(b"case-31.day");
     print_day(b"case-35.day");
+    print_day(b"case-44.day");
+    print_day(b"case-45.day");
 }
 
 // Files that are refused.
@@ -59,6 +61,16 @@ fn print_charges() {
     print_day(b"given-up-adds.day");
 }
 
+// Numbers that are given again, some of them hundreds of times, and trees beside actions that lost theirs.
+fn print_numbers() {
+    print_day(b"hundred-rides.day");
+    print_day(b"dropped-child.day");
+    print_day(b"dropped-parent.day");
+    print_day(b"many-nested.day");
+    print_day(b"many-queued.day");
+    print_day(b"many-refused.day");
+}
+
 // Actions that wait.
 fn print_queues() {
     print_day(b"queue.day");
@@ -84,6 +96,7 @@ fn main() {
     print_faults();
     print_actions();
     print_charges();
+    print_numbers();
     print_queues();
     print_others();
 }

@@ -84,6 +84,6 @@ module _ (w base shadow : List ℕ) (n k : ℕ) where
           omega (
             arith,
             ap (λ (s : Sight). s .holder) at-nearest,
-            nearest-given w sound n k (given-allowed .early .numberKnown),
+            nearest-given w sound n k (given-allowed .early .numberKnown, given-allowed .early .alive),
             sound .few,
           )

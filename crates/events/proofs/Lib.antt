@@ -1,2 +1,3 @@
 -- Facts that the proofs of the events use.
 mod AbortMarks
+mod Orphans

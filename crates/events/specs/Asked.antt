@@ -1,8 +1,9 @@
--- What an event asks of its caller. Assumes nothing.
-use Prim.Native.Nat.{ℕ, _<_}
+-- What a start asks of its caller. Assumes nothing.
+use Prim.Native.Nat.{ℕ}
+use mathlib.Core.Logic.{_≢_}
 use mathlib.Core.List.{List}
-use Rattle.rules.specs.Table.{mostActions, highest}
+use Rattle.rules.specs.Free.{nextNumber}
 
--- not all actions are started
+-- a number is free
 abbrev pub HasFreeNumber : List ℕ → Type 0
-HasFreeNumber w = highest w < mostActions
+HasFreeNumber w = nextNumber w ≢ 0

@@ -4,7 +4,7 @@ ghost use Rattle.rules.specs.Range.{count};
 ghost use Rattle.rules.specs.Table.{actions};
 ghost use Rattle.rules.specs.Walk.{isAbortedBy};
 ghost use Rattle.rules.specs.Step.{abortTable};
-ghost use Rattle.ancestry.specs.Ancestry.{ParentsBelow};
+ghost use Rattle.ancestry.specs.Ancestry.{LiveClimb};
 use ancestry::walk::is_aborted_by;
 use rows::fields::highest;
 use rows::fields::set_state;
@@ -12,7 +12,7 @@ use rules::table::ABORTED;
 
 // How many became aborted.
 pub fn abort_live(table: &mut [u64], n: u64) -> u64
-    requires { ⌜ ParentsBelow (now table) ⌝ }
+    requires { ⌜ LiveClimb (now table) ⌝ }
     ensures count { λ r. ⌜ r ≡ count (isAbortedBy (now (table .entry)) n) (actions (now (table .entry))) ⌝ }
     ensures leaves { λ r. ⌜ now (table .exit) ≡ abortTable (now (table .entry)) n ⌝ }
 {

@@ -1,6 +1,6 @@
 // The verdict of an action that enters its queue.
 ghost use mathlib.Core.Path.{_≡_};
-ghost use Rattle.rules.specs.Sound.{IsGiven, Sound};
+ghost use Rattle.rules.specs.Sound.{IsGiven, IsLiveAction, Sound};
 ghost use Rattle.rules.specs.Kind.{IsKind};
 ghost use Rattle.rules.specs.Verdict.{meets, isMetBy, isMetInQueue, verdictOf};
 ghost use Rattle.rules.specs.Card.{IsAccount};
@@ -75,7 +75,7 @@ fn is_met_in_queue(table: &[u64], h: u64, n: u64) -> bool
 pub(crate) fn verdict(table: &[u64], h: u64, n: u64) -> u64
     requires { ⌜ Sound (now table) ⌝ }
     requires { ⌜ IsKind h ⌝ }
-    requires { ⌜ IsGiven (now table) n ⌝ }
+    requires { ⌜ IsLiveAction (now table) n ⌝ }
     ensures { λ r. ⌜ r ≡ verdictOf (now (table .entry)) h n ⌝ }
 {
     match first_clash(table, n) {

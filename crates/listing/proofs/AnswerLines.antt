@@ -1,19 +1,22 @@
--- The lines made from the words of answers are the lines of the answers. Assumes nothing.
+-- The lines made and the starts counted from the words of answers are those of the answers, and so is the listing. Assumes
+-- nothing.
 use Prim.Native.Nat.{ℕ, suc, _+_, _*_, _<_}
 use native.Mathlib.Nat.{add-zero}
 use native.Mathlib.Omega.{arith}
 use mathlib.Core.Path.{_≡_, refl, sym, ap, ap₂, _∙_}
+use mathlib.Core.Bool.{Bool, true, false, cond}
 use mathlib.Core.List.{List, [], _∷_, _++_, append-assoc}
 use lib.Dec.{lit<}
 use lib.ListN.{length, drop, getD, List·getD-append}
 use lib.Seq.{getD-drop, drop-drop, drop-at}
 use Rattle.rules.specs.declared.Answer.{Answer}
 use Rattle.rules.specs.declared.Answer.the-variants.{Started, Read, ReadSum, Written, Added, Entered, Ready, JudgedFailed, Committed, Failed, Aborted, Refused}
+use Rattle.rules.specs.Range.{filter}
 use Rattle.rules.specs.Answer.{said}
 use Rattle.rules.specs.Encoding.{answerLength, wordsOf, wordsOfAll}
 use Rattle.rules.proofs.Laws.AnswerWords.{words-length}
-use Rattle.listing.specs.Listing.{saidText, answerLine, answerLines}
-use Rattle.listing.specs.Buffer.{wordOf, numbersOf, saidSum, textOf, lineOf, lineAt, linesOf}
+use Rattle.listing.specs.Listing.{saidText, answerLine, answerLines, isStarted, startsIn, lastLine}
+use Rattle.listing.specs.Buffer.{wordOf, numbersOf, saidSum, textOf, lineOf, lineAt, linesOf, startsOf, startsFrom, listingOf}
 
 -- the text that four words give is the answer's
 pub text-of-words :
@@ -41,9 +44,12 @@ module _ (words rest : List ℕ) (i : ℕ) (a : Answer) (here : drop (answerLeng
       ∙ ap (λ (l : List ℕ). getD l k 0) here
       ∙ List·getD-append (wordsOf a) rest 0 k (omega (arith, words-length a))
 
+  kind : getD words (answerLength * i) 0 ≡ getD (wordsOf a) 0 0
+  kind = rw add-zero at (word 0 (lit< tt))
+
   line : (place : ℕ) → lineAt words place i ≡ answerLine place a
   unfolding lineOf
-  line place = rw (rw add-zero at (word 0 (lit< tt)), word 1 (lit< tt), word 2 (lit< tt), word 3 (lit< tt), text-of-words a)
+  line place = rw (kind, word 1 (lit< tt), word 2 (lit< tt), word 3 (lit< tt), text-of-words a)
 
   behind : drop (answerLength * suc i) words ≡ rest
   behind =
@@ -63,7 +69,38 @@ lines-from words rest place i (a ∷ answers) e =
     (lines-from words rest (suc place) (suc i) answers (behind words _ i a here))
 
 -- the lines from the words of all answers are the lines of the answers
-pub lines-of-answers :
+lines-of-answers :
     (answers : List Answer) (rest : List ℕ)
     → linesOf (wordsOfAll answers ++ rest) 1 0 (length answers) ≡ answerLines 1 answers
 lines-of-answers answers rest = lines-from (wordsOfAll answers ++ rest) rest 1 0 answers refl
+
+-- one more is counted where a test takes it in
+counted : {A : Type 0} (b : Bool) (x : A) (rest : List A) → cond b 1 0 + length rest ≡ length (cond b (x ∷ rest) rest)
+counted true x rest = omega arith
+counted false x rest = omega arith
+
+starts-from :
+    (words rest : List ℕ) (i : ℕ) (answers : List Answer)
+    → drop (answerLength * i) words ≡ wordsOfAll answers ++ rest
+    → startsFrom words i (length answers) ≡ startsIn answers
+unfolding startsFrom startsIn filter wordsOfAll
+starts-from words rest i [] e = refl
+starts-from words rest i (a ∷ answers) e =
+    let here = e ∙ append-assoc (wordsOf a) (wordsOfAll answers) rest in
+    ap₂ (λ (first others : ℕ). first + others)
+    (ap startsOf (kind words _ i a here))
+    (starts-from words rest (suc i) answers (behind words _ i a here))
+    ∙ counted (isStarted a) a (filter isStarted answers)
+
+-- the starts counted from the words of all answers are the starts among the answers
+starts-of-answers :
+    (answers : List Answer) (rest : List ℕ)
+    → startsFrom (wordsOfAll answers ++ rest) 0 (length answers) ≡ startsIn answers
+starts-of-answers answers rest = starts-from (wordsOfAll answers ++ rest) rest 0 answers refl
+
+-- the listing made from the words of all answers has the answers' lines and the last line of the answers and the table
+pub listing-of-answers :
+    (answers : List Answer) (rest table : List ℕ)
+    → listingOf (wordsOfAll answers ++ rest) (length answers) table ≡ answerLines 1 answers ++ lastLine answers table
+unfolding listingOf
+listing-of-answers answers rest table = rw (lines-of-answers answers rest, starts-of-answers answers rest)

@@ -4,6 +4,7 @@ pub mod Texts
 mod Decimals
 mod Pieces
 pub mod Bounds
+mod Starts
 pub mod AnswerLines
 pub mod TreePieces
 pub mod TreeText

@@ -4,17 +4,16 @@ use native.Mathlib.Nat.{add-zero, mul-suc}
 use native.Mathlib.Omega.{arith}
 use native.Mathlib.Numerals.{add-one}
 use mathlib.Core.Path.{_≡_, refl, sym, ap, ap₂, _∙_}
-use mathlib.Core.Logic.{⊎-elim}
 use mathlib.Core.Bool.{true}
-use mathlib.Core.List.{List, [], _∷_, _++_, map, flatMap, append-assoc, List·Memᴰ, List·Memᴰ·head, List·Memᴰ·tail, List·Memᴰ·not-nil, List·Memᴰ·cases-cons}
+use mathlib.Core.List.{List, [], _∷_, _++_, map, flatMap, append-assoc, List·Memᴰ, List·Memᴰ·head, List·Memᴰ·tail}
 use lib.IntN.{ℤ}
 use lib.ListN.{length, take, drop, getD, length-append, List·getD-append}
 use lib.Seq.{sets, length-sets, sets-eq, getD-drop, drop-drop, drop-append-seam, drop-at, length-take-le, take-append-add}
 use Rattle.rules.specs.Range.{upFrom}
 use Rattle.rules.specs.Card.{firstCharge, chargeCount, chargeAccounts, IsCharge}
 use Rattle.rules.specs.Amount.{amountWord, isAmount, baseAmount}
-use Rattle.rules.specs.Table.{mostActions, stateOf}
-use Rattle.rules.specs.Tree.{Line, totalOf, topSum, treeLines, accountFigures, figuresOf, balanceOf, lineLength, lineWords, balanceLength, balanceWords, blockPlace, reportLength, withReport}
+use Rattle.rules.specs.Table.{mostActions, stateOf, totalOf}
+use Rattle.rules.specs.Tree.{Line, treeLines, accountFigures, figuresOf, balanceOf, lineLength, lineWords, balanceLength, balanceWords, blockPlace, reportLength, withReport}
 use Rattle.rules.proofs.Laws.Ranges.{Within}
 use Rattle.rules.proofs.Laws.Amounts.{amount-of-any, amountIn-any, amount-read-back}
 use Rattle.listing.specs.Tree.{spacedFigures, actionLine, balanceLine, treeText}
@@ -104,12 +103,12 @@ module _ {A : Type 0} (step : ℕ) (wordsOf : A → List ℕ) (all-long : (x : A
 
 -- every total of action n is an amount
 abbrev pub TotalsFit : List ℕ → ℕ → Type 0
-TotalsFit w n = (k : ℕ) → IsCharge k → isAmount (totalOf w k n) ≡ true
+TotalsFit w n = (k : ℕ) → IsCharge k → isAmount (totalOf w n k) ≡ true
 
 module _ (w : List ℕ) where
   -- own adds are amounts in any table
   run-amounts :
-      (n a m : ℕ) → ((k : ℕ) → Within a m k → isAmount (totalOf w k n) ≡ true)
+      (n a m : ℕ) → ((k : ℕ) → Within a m k → isAmount (totalOf w n k) ≡ true)
       → AreAmounts (flatMap (accountFigures w n) (upFrom a m))
   unfolding AreAmounts flatMap upFrom
   run-amounts n a zero fit = tt
@@ -146,35 +145,25 @@ module _ (w : List ℕ) where
 
 -- ---- the last block's lines
 
--- nothing but its numbers is in a run
-run-only : (a n x : ℕ) → List·Memᴰ x (upFrom a n) → Within a n x
-unfolding upFrom
-run-only a zero x m = absurd (List·Memᴰ·not-nil m)
-run-only a (suc n) x m =
-    ⊎-elim (λ e. omega arith) (λ r. let h = run-only (suc a) n x r in omega arith) (List·Memᴰ·cases-cons m)
-
-charge-only : (k : ℕ) → List·Memᴰ k chargeAccounts → IsCharge k
-unfolding chargeAccounts
-charge-only k m = let h = run-only firstCharge chargeCount k m in omega arith
-
 module _ (w base opening : List ℕ) where
-  balances-amounts : (k : ℕ) → isAmount (topSum w k) ≡ true → AreAmounts (balanceOf w base opening k)
+  -- all of them are read from words or cards
+  balances-amounts : (k : ℕ) → AreAmounts (balanceOf w base opening k)
   unfolding AreAmounts baseAmount
-  balances-amounts k fit = (amountIn-any _, (fit, (amountIn-any _, tt)))
+  balances-amounts k = (amountIn-any _, (amount-of-any _, (amountIn-any _, tt)))
 
   balanceWords-length : (k : ℕ) → length (balanceWords w base opening k) ≡ balanceLength
   unfolding balanceWords
   balanceWords-length k = refl
 
   balance-text :
-      (words : List ℕ) (k : ℕ) → isAmount (topSum w k) ≡ true → (at : ℕ) → Begins words at (balanceWords w base opening k)
+      (words : List ℕ) (k at : ℕ) → Begins words at (balanceWords w base opening k)
       → balanceAtPlace words at ≡ balanceLine w base opening k
   unfolding balanceAtPlace balanceLine balanceWords
-  balance-text words k fit at here =
+  balance-text words k at here =
       let figures = map amountWord (balanceOf w base opening k) in
       rw (
         first-of words at (k ∷ figures) here (omega arith),
-        figures-text words (at + 1) (balanceOf w base opening k) (balances-amounts k fit)
+        figures-text words (at + 1) (balanceOf w base opening k) (balances-amounts k)
             (behind words at (k ∷ []) figures here),
       )
 
@@ -229,13 +218,12 @@ module _ (buffer w base opening : List ℕ) (whole : length buffer ≡ reportLen
       let reach = length-take-le blockPlace lined (omega (arith, length-sets buffer 0 lineRun)) in
       (after, rw report-parts (drop-at (take blockPlace lined) (block ++ after) blockPlace reach))
 
-  -- where every figure is an amount, the report's text is the tree's
+  -- where every total is an amount, the report's text is the tree's
   pub text-of-report :
       ((line : Line) → List·Memᴰ line (treeLines w) → TotalsFit w (line .number))
-      → ((k : ℕ) → IsCharge k → isAmount (topSum w k) ≡ true)
       → textOfReport (withReport buffer w base opening) (length (treeLines w)) ≡ treeText w base opening
   unfolding textOfReport treeText chargeAccounts upFrom
-  text-of-report totals sums =
+  text-of-report totals =
       let words = withReport buffer w base opening in
       ap₂ _++_
       (lines-text lineLength (lineWords w) (lineWords-length w) words (lineAtPlace words) (actionLine w) (treeLines w) 0
@@ -243,5 +231,5 @@ module _ (buffer w base opening : List ℕ) (whole : length buffer ≡ reportLen
       lines-begin)
       (lines-text balanceLength (balanceWords w base opening) (balanceWords-length w base opening) words (balanceAtPlace words)
       (balanceLine w base opening) chargeAccounts blockPlace
-      (λ k m. balance-text w base opening words k (sums k (charge-only k m)))
+      (λ k m. balance-text w base opening words k)
       block-begins)

@@ -8,10 +8,12 @@ use lib.Dec.{eqb}
 use lib.ListN.{length, take, drop, getD}
 use lib.IntN.{ℤ}
 use Rattle.rules.specs.declared.Answer.the-variants.{Started, Read, ReadSum, Written, Added, Entered, Ready, JudgedFailed, Committed, Failed, Aborted, Refused}
+use Rattle.rules.specs.Kind.{topKind, subKind}
 use Rattle.rules.specs.Amount.{amountOf}
+use Rattle.rules.specs.Table.{counter}
 use Rattle.rules.specs.Answer.{said}
 use Rattle.rules.specs.Encoding.{mostEvents, answerLength, refusedKind, startedKind, readKind, writtenKind, committedKind, failedKind, abortedKind, addedKind, readSumKind, enteredKind, readyKind}
-use Rattle.listing.specs.Listing.{space, lineFeed, decimal, spaced, spacedSum, lastLine}
+use Rattle.listing.specs.Listing.{space, lineFeed, decimal, spaced, spacedSum, endLine}
 
 -- RULES 11.4: the bytes of the buffer
 abbrev pub listingLength : ℕ
@@ -77,6 +79,16 @@ unfoldable pub linesOf : List ℕ → ℕ → ℕ → ℕ → List ℕ
 linesOf words place i zero = []
 linesOf words place i (suc n) = lineAt words place i ++ linesOf words (suc place) (suc i) n
 
--- the listing of a day that is run: a line for each of its answers, and the line of its table's three numbers
+-- how many starts an answer of this kind is
+abbrev pub startsOf : ℕ → ℕ
+startsOf kind = cond (eqb kind startedKind) 1 0
+
+-- how many of the n answers from the ith on are starts
+unfoldable pub startsFrom : List ℕ → ℕ → ℕ → ℕ
+startsFrom words i zero = 0
+startsFrom words i (suc n) = startsOf (getD words (answerLength * i) 0) + startsFrom words (suc i) n
+
+-- the listing of a day that is run: a line for each of its answers, and the line of its starts and its table's two counters
 unfoldable pub listingOf : List ℕ → ℕ → List ℕ → List ℕ
-listingOf words count table = linesOf words 1 0 count ++ lastLine table
+listingOf words count table =
+    linesOf words 1 0 count ++ endLine (startsFrom words 0 count) (counter table topKind) (counter table subKind)

@@ -1,15 +1,18 @@
 -- RULES 10: the lines of a listing, as ASCII. Assumes nothing.
 use Prim.Native.Nat.{ℕ, zero, suc, _+_, _/_, _%_}
-use mathlib.Core.Bool.{cond}
+use mathlib.Core.Bool.{Bool, cond}
 use mathlib.Core.Option.{Option, none, some}
 use mathlib.Core.List.{List, [], _∷_, _++_}
-use lib.Dec.{ltb}
+use lib.Dec.{ltb, eqb}
+use lib.ListN.{length, getD}
 use lib.IntN.{ℤ, pos, negsuc}
 use Rattle.rules.specs.declared.Answer.{Answer}
 use Rattle.rules.specs.declared.Answer.the-variants.{Refused}
 use Rattle.rules.specs.Kind.{topKind, subKind}
-use Rattle.rules.specs.Table.{highest, counter}
+use Rattle.rules.specs.Range.{filter}
+use Rattle.rules.specs.Table.{counter}
 use Rattle.rules.specs.Answer.{Said, said}
+use Rattle.rules.specs.Encoding.{startedKind, wordsOf}
 
 abbrev pub space : ℕ
 space = 32
@@ -70,12 +73,20 @@ unfoldable pub answerLines : ℕ → List Answer → List ℕ
 answerLines place [] = []
 answerLines place (a ∷ answers) = answerLine place a ++ answerLines (suc place) answers
 
--- RULES 10.3: the last line, and that of a table
+-- an answer is `started`, by its kind
+abbrev pub isStarted : Answer → Bool
+isStarted a = eqb (getD (wordsOf a) 0 0) startedKind
+
+-- how many events were answered `started`: no table tells it, as numbers are given again
+unfoldable pub startsIn : List Answer → ℕ
+startsIn answers = length (filter isStarted answers)
+
+-- RULES 10.3: the last line, and that of a day's answers and the table after them
 abbrev pub endLine : ℕ → ℕ → ℕ → List ℕ
 endLine starts top sub = endWord ++ spaced (starts ∷ top ∷ sub ∷ []) ++ (lineFeed ∷ [])
 
-abbrev pub lastLine : List ℕ → List ℕ
-lastLine w = endLine (highest w) (counter w topKind) (counter w subKind)
+abbrev pub lastLine : List Answer → List ℕ → List ℕ
+lastLine answers w = endLine (startsIn answers) (counter w topKind) (counter w subKind)
 
 -- RULES 10.4: the line of a refused day
 abbrev pub refusedLine : ℕ → List ℕ

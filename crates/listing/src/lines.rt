@@ -3,7 +3,7 @@ ghost use mathlib.Core.Path.{_≡_};
 ghost use Prim.Native.Nat.{_+_, _≤_};
 ghost use lib.ListN.{length};
 ghost use Rattle.listing.specs.Listing.{spaced, endLine, refusedLine};
-ghost use Rattle.listing.specs.Buffer.{IsListingBuffer, HasAnswers, putAt, wordOf, hasNoNumbers, hasTwoNumbers, numbersOf, textOf, lineOf, linesOf, listingOf};
+ghost use Rattle.listing.specs.Buffer.{IsListingBuffer, HasAnswers, putAt, wordOf, hasNoNumbers, hasTwoNumbers, numbersOf, textOf, lineOf, linesOf, startsOf, startsFrom, listingOf};
 use crate::text::put_byte;
 use crate::text::put_number;
 use crate::text::put_signed;
@@ -130,6 +130,28 @@ fn put_lines(out: &mut [u8], answers: &[u64], count: usize) -> usize
     at
 }
 
+// How many starts an answer of this kind is.
+fn starts_of(kind: u64) -> u64
+    ensures { λ r. ⌜ r ≡ startsOf kind ⌝ }
+{
+    if kind == kind::STARTED {
+        return 1;
+    }
+    0
+}
+
+// How many of the first answers are starts.
+fn count_starts(answers: &[u64], count: usize) -> u64
+    requires { ⌜ HasAnswers (now answers) count ⌝ }
+    ensures { λ r. ⌜ r ≡ startsFrom (now (answers .entry)) 0 count ⌝ }
+{
+    let mut starts = 0;
+    for i in 0..count {
+        starts += starts_of(answers[ANSWER_LENGTH * i]);
+    }
+    starts
+}
+
 fn put_end(out: &mut [u8], at: usize, starts: u64, top: u64, sub: u64) -> usize
     requires { ⌜ at + length (endLine starts top sub) ≤ length (now out) ⌝ }
     ensures next { λ r. ⌜ r ≡ at + length (endLine starts top sub) ⌝ }
@@ -142,7 +164,7 @@ fn put_end(out: &mut [u8], at: usize, starts: u64, top: u64, sub: u64) -> usize
     put_byte(out, three, b'\n')
 }
 
-// The listing of a day that is run: its lines, and the line of its table's three numbers.
+// The listing of a day that is run: its lines, and the line of its starts and its table's two counters.
 pub fn put_listing(out: &mut [u8], answers: &[u64], count: usize, table: &[u64]) -> usize
     requires { ⌜ HasAnswers (now answers) count ⌝ }
     requires { ⌜ IsListingBuffer (now out) ⌝ }
@@ -151,7 +173,7 @@ pub fn put_listing(out: &mut [u8], answers: &[u64], count: usize, table: &[u64])
         ≡ putAt (now (out .entry)) 0 (listingOf (now (answers .entry)) count (now (table .entry))) ⌝ }
 {
     let next = put_lines(out, answers, count);
-    let starts = table::highest(table);
+    let starts = count_starts(answers, count);
     let top = table::top_counter(table);
     let sub = table::sub_counter(table);
     put_end(out, next, starts, top, sub)

@@ -5,21 +5,21 @@ use Prim.Native.Nat.{ℕ, suc, _+_, _-_, _≤_, _<_}
 use native.Mathlib.Nat.{zero-add, add-zero}
 use native.Mathlib.Numerals.{add-one}
 use native.Mathlib.Omega.{arith}
-use mathlib.Core.Path.{_≡_, refl, sym, ap, _∙_}
+use mathlib.Core.Path.{_≡_, refl, sym, ap, _∙_, fun-ext}
 use mathlib.Core.Logic.{inl}
 use mathlib.Core.Bool.{true, false}
 use mathlib.Core.List.{List, _∷_, map}
 use lib.ListN.{length}
 use Rattle.rules.specs.Range.{upFrom, filter}
-use Rattle.rules.specs.Table.{width, highestField, parentField, word, highest, parentOf}
+use Rattle.rules.specs.Table.{width, highestField, parentField, stateField, word, highest, parentOf, stateOf}
 use Rattle.rules.specs.Walk.{isAbortedBy}
 use Rattle.rules.specs.Kind.{IsKind}
+use Rattle.rules.specs.Sound.{IsGiven}
 use Rattle.rules.specs.Queue.{numberField, queueLength, withQueueLength, Entry, entryAt, withEntry, queue, withEntries, withQueue, keepsPlace, withoutBelow}
 use Rattle.rules.proofs.Laws.Ranges.{left-next, left-done}
-use Rattle.rules.proofs.Laws.Walking.{given-climbs}
 use Rattle.rules.proofs.Laws.Queue.{OffEntry, withEntry-length, withEntry-off, entryAt-other}
 use Rattle.rules.proofs.Laws.QueueLoops.{queued-at, abortedBy-kept}
-use Rattle.ancestry.specs.Ancestry.{ParentsBelow, IsKnown}
+use Rattle.ancestry.specs.Ancestry.{LiveClimb}
 use Rattle.queue.specs.Line.{AreKnown}
 
 -- the entries from position i on of those whom an abort of n does not reach
@@ -66,19 +66,24 @@ module _ (w : List ℕ) (h n : ℕ) where
     unfolding filter withEntries
     closed-last done = sym (r .leaves ∙ rw (left-done i (queueLength w h + 1) done, add-zero))
 
-    module _ (known : IsKind h) (s : ParentsBelow w) where
+    module _ (known : IsKind h) (s : LiveClimb w) where
       same-highest : highest v ≡ highest w
       same-highest = r .fields 0 highestField (omega arith) (inl (omega arith))
 
       same-parent : (m : ℕ) → parentOf v m ≡ parentOf w m
       same-parent m = r .fields m parentField (omega arith) (inl (omega arith))
 
-      pub parents-below-kept : ParentsBelow v
-      parents-below-kept =
+      same-state : (m : ℕ) → stateOf v m ≡ stateOf w m
+      same-state m = r .fields m stateField (omega arith) (inl (omega arith))
+
+      pub live-climb-kept : LiveClimb v
+      live-climb-kept =
           record {
             long = r .long ∙ s .long;
             few = omega (arith, same-highest, s .few);
-            below = λ m begun. rw (same-parent m) (s .below m (omega (arith, same-highest)));
+            known = λ m begun. rw (same-parent m, same-highest) (s .known m (omega (arith, same-highest)));
+            climb =
+                λ m begun alive. rw (fun-ext same-parent) (s .climb m (omega (arith, same-highest)) (rw (same-state m) at alive));
           }
 
       -- m stands at i
@@ -87,17 +92,16 @@ module _ (w : List ℕ) (h n : ℕ) where
         unfolding entryAt
         same-number = number ∙ ap (λ e. e .number) (r .entries i (omega arith))
 
-        known-there : m ≤ highest w
+        known-there : IsGiven w m
         known-there = rw same-number (waits _ (queued-at w h i (omega (arith, r .behind)) inside))
 
-        pub known-kept : IsKnown v m
-        known-kept = omega (arith, same-highest, known-there)
+        pub known-kept : IsGiven v m
+        known-kept = (known-there .0, omega (arith, same-highest, known-there .1))
 
         test-kept : isAbortedBy v n m ≡ isAbortedBy w n (entryAt w h i .number)
         unfolding entryAt
         test-kept =
-            abortedBy-kept w v h known (r .fields) n m (given-climbs w (s .few) (s .below) m known-there)
-            ∙ ap (isAbortedBy w n) same-number
+            abortedBy-kept w v h known (r .fields) n m ∙ ap (isAbortedBy w n) same-number
 
         -- its entry goes, or it stays
         pub closed-over : isAbortedBy v n m ≡ true → Closed w h n v kept (i + 1)

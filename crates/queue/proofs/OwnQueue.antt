@@ -20,4 +20,4 @@ module _ {w : List ℕ} (s : Sound w) (h : ℕ) (known : IsKind h) where
   stands-once = s .lines h known .once
 
   pub are-known : AreKnown w h
-  are-known m waits = s .lines h known .waits m waits .begun .1
+  are-known m waits = s .lines h known .waits m waits .begun

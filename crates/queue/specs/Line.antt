@@ -8,8 +8,7 @@ use Rattle.rules.specs.Range.{upFrom}
 use Rattle.rules.specs.Table.{tableLength, mostActions}
 use Rattle.rules.specs.Kind.{IsKind}
 use Rattle.rules.specs.Queue.{queueLength, entryAt, isOf, isQueued}
-use Rattle.rules.specs.Sound.{areDistinct, queueNumbers}
-use Rattle.ancestry.specs.Ancestry.{IsKnown}
+use Rattle.rules.specs.Sound.{areDistinct, queueNumbers, IsGiven}
 
 -- w has a table's length, h is the kind of those who wait in one of its queues, and each of its positions has a row
 pub record HasLine (w : List ℕ) (h : ℕ) : Type 0 where
@@ -25,9 +24,9 @@ HasRoom w h = queueLength w h < mostActions
 abbrev pub StandsOnce : List ℕ → ℕ → Type 0
 StandsOnce w h = areDistinct (queueNumbers w h) ≡ true
 
--- whoever waits in queue h is an action of w, or the store
+-- whoever waits in queue h is an action of w
 abbrev pub AreKnown : List ℕ → ℕ → Type 0
-AreKnown w h = (m : ℕ) → isQueued w h m ≡ true → IsKnown w m
+AreKnown w h = (m : ℕ) → isQueued w h m ≡ true → IsGiven w m
 
 -- the first of these numbers of which f holds, 0 where it holds of none
 unfoldable pub first : (ℕ → Bool) → List ℕ → ℕ

@@ -3,7 +3,7 @@ ghost use mathlib.Core.Path.{_≡_};
 ghost use Rattle.rules.specs.Kind.{IsKind};
 ghost use Rattle.rules.specs.Queue.{entryAt, withEntry, withTail, withReady, withoutBelow};
 ghost use Rattle.rows.specs.Row.{HasRow};
-ghost use Rattle.ancestry.specs.Ancestry.{ParentsBelow};
+ghost use Rattle.ancestry.specs.Ancestry.{LiveClimb};
 ghost use Rattle.queue.specs.Line.{HasLine, HasRoom, StandsOnce, AreKnown};
 use crate::find::NO_POSITION;
 use crate::find::position_of;
@@ -59,7 +59,7 @@ fn move_entry(table: &mut [u64], h: u64, from: u64, to: u64)
 // Those whom an abort of n reaches leave, and the others close up.
 pub fn take_out(table: &mut [u64], h: u64, n: u64)
     requires { ⌜ HasLine (now table) h ⌝ }
-    requires { ⌜ ParentsBelow (now table) ⌝ }
+    requires { ⌜ LiveClimb (now table) ⌝ }
     requires { ⌜ AreKnown (now table) h ⌝ }
     ensures { λ r. ⌜ now (table .exit) ≡ withoutBelow (now (table .entry)) h n ⌝ }
 {

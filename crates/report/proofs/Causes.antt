@@ -10,15 +10,11 @@ use mathlib.Core.List.{List, [], _∷_, _++_}
 use borrow.Author.Tests.{eq-eqb, ne-eqb}
 use lib.ListN.{length}
 use Rattle.rules.specs.Range.{any}
-use Rattle.rules.specs.Card.{baseLength, chargeAccounts, IsCharge}
-use Rattle.rules.specs.Amount.{isAmount}
-use Rattle.rules.specs.Table.{mostActions}
-use Rattle.rules.specs.Sound.{IsGiven}
+use Rattle.rules.specs.Card.{baseLength, chargeAccounts}
 use Rattle.rules.specs.Cause.{Cause, firstCause, storeLengthCause, isStoreLengthWrong, sumCause, storeCauses}
-use Rattle.rules.specs.Tree.{totalOf, isFigureOutside, treeCauses, treeCause}
+use Rattle.rules.specs.Tree.{isFigureOutside, treeCauses, treeCause}
 use Rattle.rules.proofs.Laws.Tests.{or-inr}
 use Rattle.causes.proofs.Grouped.{Accepted, stores-refused, stores-passed, stores-accepted}
-use Rattle.totals.proofs.Gathering.{fitting-is-amount}
 use Rattle.report.specs.Asked.{FiguresFit}
 use Rattle.report.proofs.Fitting.{figures-fit}
 
@@ -68,8 +64,3 @@ module _ (w base shadow opening : List ℕ) where
       by-length (no other) = absurd (omega (arith, sym (opening-wrong other) ∙ none))
       by-length (yes opens) =
           by-stores opens (sym (opening-right opens) ∙ none) (ℕ-discrete (firstCause (storeCauses w base shadow)) 0)
-
-  -- its figures are amounts
-  pub totals-are : Reportable → (n k : ℕ) → IsGiven w n → IsCharge k → isAmount (totalOf w k n) ≡ true
-  unfolding totalOf
-  totals-are may n k known charge = fitting-is-amount mostActions w k n (may .fit .totals n k known charge)

@@ -11,7 +11,7 @@ use Rattle.rules.specs.Card.{chargeAccounts}
 use Rattle.rules.specs.Table.{highest, actions, isChildOf}
 use Rattle.rules.specs.Tree.{Line, children, linesWithin, figuresOf, lineLength, lineWords}
 use Rattle.rules.proofs.Laws.Ranges.{filter-left-here, filter-left-next, filter-left-done}
-use Rattle.report.specs.Lined.{lineAtDepth, actionLines, childrenFrom, linesFrom, HasLineRoom, IsLined}
+use Rattle.report.specs.Lined.{linePlace, lineAtDepth, actionLines, childrenFrom, linesFrom, HasLineRoom, IsLined}
 use Rattle.report.proofs.Words.{sets-append}
 
 -- ---- lines put one after the other
@@ -37,42 +37,44 @@ module _ (w : List ℕ) where
   words-append (x ∷ xs) ys =
       ap (λ rest. lineWords w x ++ rest) (words-append xs ys) ∙ sym (append-assoc (lineWords w x) (linesWords xs) (linesWords ys))
 
-  pub lined-none : (before : List ℕ) (at : ℕ) → IsLined w before at [] before at
+  pub lined-none : (words : List ℕ) (before : ℕ) → IsLined w words before [] words before
   unfolding flatMap
-  lined-none before at = record { behind = omega arith; leaves = refl }
+  lined-none words before = record { counted = omega arith; leaves = refl }
 
   pub lined-one :
-      (before : List ℕ) (at : ℕ) (line : Line) (after : List ℕ) → after ≡ sets before at (lineWords w line) →
-      IsLined w before at (line ∷ []) after (at + lineLength)
+      (words : List ℕ) (before : ℕ) (line : Line) (put : List ℕ) → put ≡ sets words (linePlace before) (lineWords w line) →
+      IsLined w words before (line ∷ []) put (before + 1)
   unfolding flatMap
-  lined-one before at line after put =
-      record { behind = omega arith; leaves = put ∙ ap (sets before at) (sym (append-nil (lineWords w line))) }
+  lined-one words before line put is =
+      record { counted = refl; leaves = is ∙ ap (sets words (linePlace before)) (sym (append-nil (lineWords w line))) }
 
   pub lined-both :
-      {before : List ℕ} {at : ℕ} {xs : List Line} {between : List ℕ} {middle : ℕ} {ys : List Line} {after : List ℕ} {next : ℕ} →
-      IsLined w before at xs between middle → IsLined w between middle ys after next → IsLined w before at (xs ++ ys) after next
-  lined-both {before} {at} {xs} {between} {middle} {ys} first then =
-      let place : at + length (linesWords xs) ≡ middle = omega (arith, first .behind, words-length xs) in
+      {words : List ℕ} {before : ℕ} {xs : List Line} {between : List ℕ} {middle : ℕ} {ys : List Line} {put : List ℕ} {after : ℕ} →
+      IsLined w words before xs between middle → IsLined w between middle ys put after → IsLined w words before (xs ++ ys) put after
+  lined-both {words} {before} {xs} {between} {middle} {ys} first then =
+      let place : linePlace before + length (linesWords xs) ≡ linePlace middle = omega (arith, first .counted, words-length xs) in
       record {
-        behind = omega (arith, first .behind, then .behind, length-append xs ys);
+        counted = omega (arith, first .counted, then .counted, length-append xs ys);
         leaves =
             then .leaves
             ∙ ap₂ (λ l next. sets l next (linesWords ys)) (first .leaves) (sym place)
-            ∙ sym (ap (sets before at) (words-append xs ys) ∙ sets-append before at (linesWords xs) (linesWords ys));
+            ∙ sym (ap (sets words (linePlace before)) (words-append xs ys) ∙ sets-append words (linePlace before) (linesWords xs) (linesWords ys));
       }
 
-  pub lined-length : {before : List ℕ} {at : ℕ} {lines : List Line} {after : List ℕ} {next : ℕ} → IsLined w before at lines after next → length after ≡ length before
-  lined-length {before} {at} {lines} lined = ap length (lined .leaves) ∙ length-sets before at (linesWords lines)
+  pub lined-length :
+      {words : List ℕ} {before : ℕ} {lines : List Line} {put : List ℕ} {after : ℕ} →
+      IsLined w words before lines put after → length put ≡ length words
+  lined-length {words} {before} {lines} lined = ap length (lined .leaves) ∙ length-sets words (linePlace before) (linesWords lines)
 
 -- ---- room for them
 
-module _ {words : List ℕ} {at : ℕ} (xs ys : List Line) (all : HasLineRoom words at (xs ++ ys)) where
-  pub room-first : HasLineRoom words at xs
+module _ {words : List ℕ} {before : ℕ} (xs ys : List Line) (all : HasLineRoom words before (xs ++ ys)) where
+  pub room-first : HasLineRoom words before xs
   room-first = record { whole = all .whole; room = omega (arith, all .room, length-append xs ys) }
 
-  pub room-then : (then : List ℕ) → length then ≡ length words → (middle : ℕ) → middle ≡ at + lineLength * length xs → HasLineRoom then middle ys
-  room-then then same middle behind =
-      record { whole = same ∙ all .whole; room = omega (arith, all .room, length-append xs ys, behind) }
+  pub room-then : (then : List ℕ) → length then ≡ length words → (middle : ℕ) → middle ≡ before + length xs → HasLineRoom then middle ys
+  room-then then same middle counted =
+      record { whole = same ∙ all .whole; room = omega (arith, all .room, length-append xs ys, counted) }
 
 -- ---- the lines of children
 
@@ -101,7 +103,8 @@ module _ (levels : ℕ) (w : List ℕ) (depth p : ℕ) where
 
 module _ (w : List ℕ) (depth n : ℕ) where
   pub line-first :
-      (levels : ℕ) {words : List ℕ} {at : ℕ} → HasLineRoom words at (actionLines levels w depth n) → at + lineLength ≤ length words
+      (levels : ℕ) {words : List ℕ} {before : ℕ} → HasLineRoom words before (actionLines levels w depth n) →
+      linePlace before + lineLength ≤ length words
   unfolding actionLines
   line-first levels room = omega (arith, room .whole, room .room)
 

@@ -6,16 +6,22 @@ use mathlib.Core.List.{List}
 use lib.ListN.{length}
 use Rattle.rules.specs.Card.{IsCharge}
 use Rattle.rules.specs.Amount.{isAmount}
-use Rattle.rules.specs.Table.{mostActions}
+use Rattle.rules.specs.Table.{totalOf}
 use Rattle.rules.specs.Sound.{IsGiven, Sound}
-use Rattle.rules.specs.Tree.{topSum, reportLength}
-use Rattle.totals.specs.Total.{fitsWithin}
+use Rattle.rules.specs.Tree.{isShown, reportLength}
 
--- the table is sound, and every figure of its tree is an amount
+-- n is an action that is shown, or the store
+abbrev pub IsShown : List ℕ → ℕ → Type 0
+IsShown w n = isShown w n ≡ true
+
+-- n is an action that is shown
+abbrev pub HasLine : List ℕ → ℕ → Type 0
+HasLine w n = IsGiven w n × IsShown w n
+
+-- the table is sound, and every total of its tree is an amount
 pub record FiguresFit (w : List ℕ) : Type 0 where
   pub sound : Sound w
-  pub totals : (n k : ℕ) → IsGiven w n → IsCharge k → fitsWithin mostActions w k n ≡ true
-  pub sums : (k : ℕ) → IsCharge k → isAmount (topSum w k) ≡ true
+  pub totals : (n k : ℕ) → HasLine w n → IsCharge k → isAmount (totalOf w n k) ≡ true
 
 -- how many words an account has in a line, and all accounts together
 abbrev pub accountWords : ℕ

@@ -22,16 +22,24 @@ childrenFrom w p i = filter (isChildOf w p) (upFrom i (highest w + 1 - i))
 unfoldable pub linesFrom : ℕ → List ℕ → ℕ → ℕ → ℕ → List Line
 linesFrom levels w depth p i = flatMap (actionLines levels w depth) (childrenFrom w p i)
 
+-- i is the number of an action, or the one behind the last
+abbrev pub IsNext : List ℕ → ℕ → Type 0
+IsNext w i = (1 ≤ i) × (i ≤ highest w + 1)
+
 -- an action that lies so deep has so many levels below it at most
 abbrev pub HasLevels : ℕ → ℕ → Type 0
 HasLevels depth levels = depth + levels ≤ mostActions
 
--- these lines, put from a place on, end before the last block
-pub record HasLineRoom (words : List ℕ) (at : ℕ) (lines : List Line) : Type 0 where
-  pub whole : length words ≡ reportLength
-  pub room : at + lineLength * length lines ≤ blockPlace
+-- where the line goes before which so many stand
+abbrev pub linePlace : ℕ → ℕ
+linePlace before = lineLength * before
 
--- these lines were put from a place on, and the next one goes behind them
-pub record IsLined (w before : List ℕ) (at : ℕ) (lines : List Line) (after : List ℕ) (next : ℕ) : Type 0 where
-  pub behind : next ≡ at + lineLength * length lines
-  pub leaves : after ≡ sets before at (flatMap (lineWords w) lines)
+-- these lines, put behind so many others, end before the last block
+pub record HasLineRoom (words : List ℕ) (before : ℕ) (lines : List Line) : Type 0 where
+  pub whole : length words ≡ reportLength
+  pub room : linePlace (before + length lines) ≤ blockPlace
+
+-- these lines were put behind so many others, and so many stand there then
+pub record IsLined (w words : List ℕ) (before : ℕ) (lines : List Line) (put : List ℕ) (after : ℕ) : Type 0 where
+  pub counted : after ≡ before + length lines
+  pub leaves : put ≡ sets words (linePlace before) (flatMap (lineWords w) lines)

@@ -4,8 +4,10 @@ ghost use mathlib.Core.List.{flatMap};
 ghost use lib.Seq.{sets};
 ghost use Rattle.rules.specs.Card.{IsBase, IsCharge, chargeAccounts};
 ghost use Rattle.rules.specs.Tree.{balanceLength, blockPlace, balanceWords};
-ghost use Rattle.report.specs.Asked.{FiguresFit, HasRoomFor, IsReport};
+ghost use Rattle.rows.specs.Row.{HasRow};
+ghost use Rattle.report.specs.Asked.{HasRoomFor, IsReport};
 use amounts::bytes::word_at;
+use rows::fields::kept;
 use rules::report::BALANCE_LENGTH;
 use rules::report::BLOCK_AT;
 use rules::report::CLOSING_AT;
@@ -13,11 +15,11 @@ use rules::report::OPENING_AT;
 use rules::report::SUM_AT;
 use rules::store::ACCOUNTS;
 use rules::store::FIRST_CHARGE;
+use rules::table::HEAD;
 use stores::place::base_place;
-use totals::total::top_sum;
 
 fn put_balance(table: &[u64], base: &[u8], opening: &[u8], report: &mut [u64], at: usize, k: u64)
-    requires { ⌜ FiguresFit (now table) ⌝ }
+    requires { ⌜ HasRow (now table) 0 ⌝ }
     requires { ⌜ IsBase (now base) × IsBase (now opening) ⌝ }
     requires { ⌜ IsCharge k ⌝ }
     requires { ⌜ HasRoomFor balanceLength (now report) at ⌝ }
@@ -27,12 +29,12 @@ fn put_balance(table: &[u64], base: &[u8], opening: &[u8], report: &mut [u64], a
 {
     report[at] = k;
     report[at + OPENING_AT] = word_at(opening, base_place(k));
-    report[at + SUM_AT] = top_sum(table, k).word;
+    report[at + SUM_AT] = kept(table, HEAD, k);
     report[at + CLOSING_AT] = word_at(base, base_place(k));
 }
 
 pub(crate) fn put_block(table: &[u64], base: &[u8], opening: &[u8], report: &mut [u64])
-    requires { ⌜ FiguresFit (now table) ⌝ }
+    requires { ⌜ HasRow (now table) 0 ⌝ }
     requires { ⌜ IsBase (now base) × IsBase (now opening) ⌝ }
     requires { ⌜ IsReport (now report) ⌝ }
     ensures { λ r. ⌜ now (report .exit)

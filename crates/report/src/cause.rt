@@ -1,48 +1,49 @@
 // Why a table has no report.
 ghost use mathlib.Core.Path.{_≡_};
-ghost use mathlib.Core.Bool.{not};
-ghost use Rattle.rules.specs.Range.{any, all};
+ghost use mathlib.Core.Bool.{not, _&&_};
+ghost use Rattle.rules.specs.Range.{any};
 ghost use Rattle.rules.specs.Card.{IsCharge, chargeAccounts};
-ghost use Rattle.rules.specs.Table.{mostActions, actions};
+ghost use Rattle.rules.specs.Amount.{isAmount};
+ghost use Rattle.rules.specs.Table.{totalOf};
 ghost use Rattle.rules.specs.Sound.{Sound};
-ghost use Rattle.rules.specs.Tree.{isFigureOutside, treeCause};
-ghost use Rattle.rows.specs.Row.{Scannable};
-ghost use Rattle.totals.specs.Total.{fitsWithin};
+ghost use Rattle.rules.specs.Tree.{isShown, isFigureOutside, treeCause};
+ghost use Rattle.rows.specs.Row.{HasRow, Scannable};
+use crate::total::total;
+use amounts::sum::is_amount;
+use ancestry::way::reaches_store;
 use causes::cause::store_cause;
 use rows::fields::highest;
 use rules::cause;
-use rules::report::MOST_LEVELS;
 use rules::store::ACCOUNTS;
 use rules::store::BASE_LENGTH;
 use rules::store::FIRST_CHARGE;
-use totals::total::top_sum;
-use totals::total::total;
 
-// Every action's total for the account is an amount, and so are those that it is made of.
-fn totals_fit(table: &[u64], k: u64) -> bool
+// Action n is shown, and its total for the account is no amount.
+fn is_outside(table: &[u64], n: u64, k: u64) -> bool
+    requires { ⌜ HasRow (now table) n ⌝ }
+    requires { ⌜ IsCharge k ⌝ }
+    ensures { λ r. ⌜ r
+        ≡ isShown (now (table .entry)) n && not (isAmount (totalOf (now (table .entry)) n k)) ⌝ }
+{
+    if is_amount(total(table, n, k)) {
+        return false;
+    }
+    reaches_store(table, n)
+}
+
+// The total of every action that is shown is an amount.
+fn figures_fit(table: &[u64], k: u64) -> bool
     requires { ⌜ Scannable (now table) ⌝ }
     requires { ⌜ IsCharge k ⌝ }
-    ensures { λ r. ⌜ r ≡ all (fitsWithin mostActions (now (table .entry)) k) (actions (now (table .entry))) ⌝ }
+    ensures { λ r. ⌜ r ≡ not (isFigureOutside (now (table .entry)) k) ⌝ }
 {
     let last = highest(table);
     for n in 1..last + 1 {
-        if !total(table, n, k, MOST_LEVELS).fits {
+        if is_outside(table, n, k) {
             return false;
         }
     }
     true
-}
-
-// So is what the committed topactions brought.
-fn figures_fit(table: &[u64], k: u64) -> bool
-    requires { ⌜ Sound (now table) ⌝ }
-    requires { ⌜ IsCharge k ⌝ }
-    ensures { λ r. ⌜ r ≡ not (isFigureOutside (now (table .entry)) k) ⌝ }
-{
-    if !totals_fit(table, k) {
-        return false;
-    }
-    top_sum(table, k).fits
 }
 
 // Of every account.

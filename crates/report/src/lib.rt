@@ -4,3 +4,4 @@ mod cause;
 mod figures;
 mod lines;
 pub mod report;
+mod total;

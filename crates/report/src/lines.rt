@@ -1,13 +1,11 @@
 // The lines of the tree: an action's, and directly below it those of its children, each with its own in turn.
 ghost use mathlib.Core.Path.{_≡_};
 ghost use lib.Seq.{sets};
-ghost use Rattle.rules.specs.Sound.{IsGiven};
 ghost use Rattle.rules.specs.Table.{isChildOf};
 ghost use Rattle.rules.specs.Tree.{lineLength, lineWords};
 ghost use Rattle.rows.specs.Row.{HasRow};
-ghost use Rattle.totals.specs.Total.{IsNext};
-ghost use Rattle.report.specs.Asked.{FiguresFit, HasRoomFor};
-ghost use Rattle.report.specs.Lined.{HasLevels, HasLineRoom, lineAtDepth, actionLines, linesFrom, IsLined};
+ghost use Rattle.report.specs.Asked.{IsShown, HasLine, FiguresFit, HasRoomFor};
+ghost use Rattle.report.specs.Lined.{IsNext, HasLevels, HasLineRoom, lineAtDepth, actionLines, linesFrom, IsLined};
 use crate::figures::put_figures;
 use rows::fields::highest;
 use rows::fields::parent;
@@ -26,7 +24,7 @@ fn is_child(table: &[u64], p: u64, m: u64) -> bool
 
 fn put_line(table: &[u64], report: &mut [u64], at: usize, n: u64, depth: u64)
     requires { ⌜ FiguresFit (now table) ⌝ }
-    requires { ⌜ IsGiven (now table) n ⌝ }
+    requires { ⌜ HasLine (now table) n ⌝ }
     requires { ⌜ HasRoomFor lineLength (now report) at ⌝ }
     ensures { λ r. ⌜ now (report .exit)
         ≡ sets (now (report .entry)) at (lineWords (now (table .entry)) (lineAtDepth depth n)) ⌝ }
@@ -37,24 +35,25 @@ fn put_line(table: &[u64], report: &mut [u64], at: usize, n: u64, depth: u64)
     put_figures(table, report, at + FIGURES_AT, n);
 }
 
-// An action's line, and those under it from so many levels; back comes where the next line goes.
+// An action's line, and those under it from so many levels, behind the lines that are put so far; back comes how many there
+// are then.
 fn put_action(
     table: &[u64],
     report: &mut [u64],
-    at: usize,
+    lines: usize,
     n: u64,
     depth: u64,
     levels: u64,
 ) -> usize
     requires { ⌜ FiguresFit (now table) ⌝ }
-    requires { ⌜ IsGiven (now table) n ⌝ }
+    requires { ⌜ HasLine (now table) n ⌝ }
     requires { ⌜ HasLevels depth levels ⌝ }
-    requires { ⌜ HasLineRoom (now report) at (actionLines levels (now table) depth n) ⌝ }
-    ensures { λ r. ⌜ IsLined (now (table .entry)) (now (report .entry)) at
+    requires { ⌜ HasLineRoom (now report) lines (actionLines levels (now table) depth n) ⌝ }
+    ensures { λ r. ⌜ IsLined (now (table .entry)) (now (report .entry)) lines
         (actionLines levels (now (table .entry)) depth n) (now (report .exit)) r ⌝ }
 {
-    put_line(table, report, at, n, depth);
-    let next = at + LINE_LENGTH;
+    put_line(table, report, LINE_LENGTH * lines, n, depth);
+    let next = lines + 1;
     if levels == 0 {
         return next;
     }
@@ -65,25 +64,26 @@ fn put_action(
 pub(crate) fn put_list(
     table: &[u64],
     report: &mut [u64],
-    at: usize,
+    lines: usize,
     p: u64,
     i: u64,
     depth: u64,
     levels: u64,
 ) -> usize
     requires { ⌜ FiguresFit (now table) ⌝ }
+    requires { ⌜ IsShown (now table) p ⌝ }
     requires { ⌜ IsNext (now table) i ⌝ }
     requires { ⌜ HasLevels depth levels ⌝ }
-    requires { ⌜ HasLineRoom (now report) at (linesFrom levels (now table) depth p i) ⌝ }
-    ensures { λ r. ⌜ IsLined (now (table .entry)) (now (report .entry)) at
+    requires { ⌜ HasLineRoom (now report) lines (linesFrom levels (now table) depth p i) ⌝ }
+    ensures { λ r. ⌜ IsLined (now (table .entry)) (now (report .entry)) lines
         (linesFrom levels (now (table .entry)) depth p i) (now (report .exit)) r ⌝ }
 {
     if highest(table) < i {
-        return at;
+        return lines;
     }
     if !is_child(table, p, i) {
-        return put_list(table, report, at, p, i + 1, depth, levels);
+        return put_list(table, report, lines, p, i + 1, depth, levels);
     }
-    let next = put_action(table, report, at, i, depth, levels);
+    let next = put_action(table, report, lines, i, depth, levels);
     put_list(table, report, next, p, i + 1, depth, levels)
 }

@@ -4,7 +4,6 @@ ghost use Rattle.rules.specs.Tree.{reportOf, report};
 use crate::balance::put_block;
 use crate::cause::tree_cause;
 use crate::lines::put_list;
-use rows::fields::highest;
 use rules::cause::NONE;
 use rules::report::MOST_LEVELS;
 use rules::report::NO_LINES;
@@ -12,7 +11,7 @@ use rules::report::REPORT_LENGTH;
 use rules::report::TOP;
 use rules::table::STORE;
 
-// Back comes the cause, and in `lines` how many lines there are: one for each action.
+// Back comes the cause, and in `lines` how many lines there are: one for each action that is shown.
 pub fn report(
     table: &[u64],
     base: &[u8],
@@ -30,8 +29,8 @@ pub fn report(
         *lines = NO_LINES;
         return cause;
     }
-    put_list(table, out, 0, STORE, 1, TOP, MOST_LEVELS - 1);
+    let put = put_list(table, out, 0, STORE, 1, TOP, MOST_LEVELS - 1);
     put_block(table, base, opening, out);
-    *lines = highest(table);
+    *lines = put as u64;
     NONE
 }

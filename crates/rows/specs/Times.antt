@@ -4,7 +4,7 @@ use mathlib.Core.Path.{_≡_}
 use mathlib.Core.Bool.{true, cond}
 use mathlib.Core.List.{List}
 use Rattle.rules.specs.Kind.{topKind, subKind}
-use Rattle.rules.specs.Table.{mostActions, kindOf, withRead, hasRead, withSubTime, readTime}
+use Rattle.rules.specs.Table.{lastTime, kindOf, withRead, hasRead, withSubTime, readTime}
 use Rattle.rules.specs.Commit.{passesRead, joinedRead, joinedTime}
 use Rattle.rows.specs.declared.times.Time.{Time}
 use Rattle.rows.specs.declared.times.Time.the-variants.{Top, Sub}
@@ -66,4 +66,4 @@ PassesRead w n p k = passesRead w n p k ≡ true
 
 -- RULES 4.5: a count that a word has room to raise
 abbrev pub CanCount : ℕ → Type 0
-CanCount count = count ≤ mostActions
+CanCount count = count ≤ lastTime

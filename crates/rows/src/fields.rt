@@ -2,7 +2,7 @@
 ghost use mathlib.Core.Path.{_≡_};
 ghost use Rattle.rules.specs.Card.{IsAccount, IsCharge};
 ghost use Rattle.rules.specs.Kind.{kindUnder};
-ghost use Rattle.rules.specs.Table.{highest, withHighest, parentOf, withParent, kindOf, stateOf, withState, hasRead, hasWritten, hasCard, writeEntry, withWrite, pendingWord, withPending, ownAddsWord, withOwnAdds, isLive, isCommitted};
+ghost use Rattle.rules.specs.Table.{highest, withHighest, parentOf, withParent, kindOf, stateOf, withState, hasRead, hasWritten, hasCard, writeEntry, withWrite, pendingWord, withPending, ownAddsWord, withOwnAdds, keptWord, withKept, isLive, isCommitted};
 ghost use Rattle.rows.specs.Row.{HasRow};
 use crate::words::get;
 use crate::words::put;
@@ -10,6 +10,7 @@ use rules::store::FIRST_CHARGE;
 use rules::table::COMMITTED;
 use rules::table::HEAD;
 use rules::table::HIGHEST_FIELD;
+use rules::table::KEPT_FIELDS;
 use rules::table::LIVE;
 use rules::table::NO_ENTRY;
 use rules::table::OWN_ADDS_FIELDS;
@@ -169,4 +170,21 @@ pub fn set_own_adds(table: &mut [u64], n: u64, k: u64, v: u64)
     ensures { λ r. ⌜ now (table .exit) ≡ withOwnAdds (now (table .entry)) n k v ⌝ }
 {
     put(table, n, OWN_ADDS_FIELDS + k, v);
+}
+
+// The word of what is kept of its committed children; of row 0 that of the committed topactions.
+pub fn kept(table: &[u64], n: u64, k: u64) -> u64
+    requires { ⌜ HasRow (now table) n ⌝ }
+    requires { ⌜ IsCharge k ⌝ }
+    ensures { λ r. ⌜ r ≡ keptWord (now (table .entry)) n k ⌝ }
+{
+    get(table, n, KEPT_FIELDS + k)
+}
+
+pub fn set_kept(table: &mut [u64], n: u64, k: u64, v: u64)
+    requires { ⌜ HasRow (now table) n ⌝ }
+    requires { ⌜ IsCharge k ⌝ }
+    ensures { λ r. ⌜ now (table .exit) ≡ withKept (now (table .entry)) n k v ⌝ }
+{
+    put(table, n, KEPT_FIELDS + k, v);
 }

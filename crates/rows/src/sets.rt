@@ -1,7 +1,7 @@
-// The read set, the write set, the pending sums and the own adds of an action.
+// The read set, the write set, the pending sums, the own adds and the kept sums of an action.
 ghost use Prim.Native.Nat.{_+_};
 ghost use mathlib.Core.Path.{_≡_};
-ghost use Rattle.rules.specs.Table.{withFields, hasWrites, hasEnd, withoutAdds, withSets};
+ghost use Rattle.rules.specs.Table.{withFields, hasWrites, hasEnd, withoutAdds, withoutKept, withSets};
 ghost use Rattle.rows.specs.Row.{HasRow, HasAccountFields, IsFirstAccount, accountsFrom};
 use crate::fields::has_written;
 use crate::fields::is_committed;
@@ -9,6 +9,7 @@ use crate::words::put;
 use rules::store::ACCOUNTS;
 use rules::store::FIRST_ACCOUNT;
 use rules::store::FIRST_CHARGE;
+use rules::table::KEPT_FIELDS;
 use rules::table::NO_ENTRY;
 use rules::table::OWN_ADDS_FIELDS;
 use rules::table::PENDING_FIELDS;
@@ -68,4 +69,12 @@ pub fn clear_own_adds(table: &mut [u64], n: u64)
     ensures { λ r. ⌜ now (table .exit) ≡ withoutAdds (now (table .entry)) n ⌝ }
 {
     clear_fields(table, n, OWN_ADDS_FIELDS, FIRST_CHARGE);
+}
+
+// A start's row: nothing kept of children, whatever stood there.
+pub fn clear_kept(table: &mut [u64], n: u64)
+    requires { ⌜ HasRow (now table) n ⌝ }
+    ensures { λ r. ⌜ now (table .exit) ≡ withoutKept (now (table .entry)) n ⌝ }
+{
+    clear_fields(table, n, KEPT_FIELDS, FIRST_CHARGE);
 }

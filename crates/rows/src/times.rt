@@ -9,7 +9,7 @@ ghost use Prim.Native.Nat.{_+_};
 ghost use lib.Dec.{eqb, leb, ltb};
 ghost use Rattle.rules.specs.Card.{IsAccount};
 ghost use Rattle.rules.specs.Kind.{IsKind, topKind};
-ghost use Rattle.rules.specs.Table.{counter, withCounter, endTime, withEndTime, kindOf, readTime};
+ghost use Rattle.rules.specs.Table.{counter, withCounter, lastTime, endTime, withEndTime, kindOf, readTime};
 ghost use Rattle.rules.specs.Step.{withReadNow};
 ghost use Rattle.rows.specs.Row.{HasRow};
 ghost use Rattle.rows.specs.Times.{kindIn, numberIn, IsTime, soonerRead, laterRead, AreOfOneKind, IsOfKindOf, HasRead, CanCount};
@@ -45,6 +45,7 @@ use crate::times::top::top_read;
 use crate::words::put;
 use rules::table::END_FIELD;
 use rules::table::FIRST_END;
+use rules::table::LAST_TIME;
 use rules::table::NO_END;
 use rules::table::TOP;
 
@@ -182,13 +183,16 @@ pub fn ends_in_time(table: &[u64], n: u64) -> bool
     is_in_time(table, end)
 }
 
-// The counter of kind h is at most this many.
-pub fn counts_at_most(table: &[u64], h: u64, many: u64) -> bool
+// So many end times of kind h are left. The counter may be any word, so nothing is added to it.
+pub fn has_times_left(table: &[u64], h: u64, many: u64) -> bool
     requires { ⌜ HasRow (now table) 0 ⌝ }
     requires { ⌜ IsKind h ⌝ }
-    ensures { λ r. ⌜ r ≡ leb (counter (now (table .entry)) h) many ⌝ }
+    ensures { λ r. ⌜ r ≡ leb (counter (now (table .entry)) h + many) lastTime ⌝ }
 {
-    number_of(counter(table, h)) <= many
+    if LAST_TIME < many {
+        return false;
+    }
+    number_of(counter(table, h)) <= LAST_TIME - many
 }
 
 // The next time of the same kind, and the end time of an action of that kind that has none.

@@ -5,6 +5,7 @@ pub mod Abstraction
 pub mod AbstractionLaws
 pub mod ViewCases
 pub mod Views
+pub mod Unders
 pub mod Starts
 pub mod Looks
 pub mod Reads

@@ -20,6 +20,7 @@ pub mod AnswerWords
 pub mod CauseOrder
 pub mod Allowed
 pub mod EventCases
+pub mod Freeing
 pub mod Permitted
 pub mod Climbing
 pub mod Walking

@@ -6,4 +6,5 @@ pub mod Clash
 pub mod Stores
 pub mod Serial
 pub mod Demand
+pub mod History
 pub mod Tree

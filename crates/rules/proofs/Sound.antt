@@ -3,6 +3,9 @@ pub mod Soundness
 pub mod TableChanges
 pub mod QueueChanges
 pub mod TakingOut
+pub mod Depths
+pub mod Rings
+pub mod Giving
 pub mod Starting
 pub mod Reading
 pub mod Writing

@@ -1,22 +1,16 @@
--- The tree of a table: levels enough, a line for each action, and that opening and sum make closing.
-pub mod Sums
-pub mod Brought
-pub mod Levels
+-- The tree of a table: a line for each action that is shown, and that opening and sum make closing.
 pub mod Carried
 pub mod Quiet
 pub mod CalmEvents
 pub mod Adding
 pub mod Starting
 pub mod CommitSums
-pub mod CommitChildren
 pub mod Committing
 pub mod ByChange
 pub mod Kept
 pub mod Numbers
 pub mod Held
+pub mod Shown
 pub mod Lines
-pub mod Magnitudes
-pub mod OwnAdds
-pub mod FewEvents
 pub mod NotRefused
 pub mod Theorem

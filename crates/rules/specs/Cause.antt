@@ -1,5 +1,5 @@
 -- RULES 8: why an event is refused. Assumes nothing.
-use Prim.Native.Nat.{ℕ}
+use Prim.Native.Nat.{ℕ, _+_}
 use mathlib.Core.Bool.{Bool, false, not, cond, _&&_, _||_}
 use mathlib.Core.List.{List, [], _∷_, _++_}
 use lib.Dec.{leb, ltb, eqb}
@@ -8,9 +8,10 @@ use lib.IntN.{ℤ, _+ℤ_}
 use Rattle.rules.specs.Card.{accountCount, isCharge, chargeAccounts, cardLength, baseLength, shadowLength}
 use Rattle.rules.specs.Amount.{isAmount, isAddable, amountIn}
 use Rattle.rules.specs.Range.{any}
-use Rattle.rules.specs.Table.{mostActions, highest, parentOf, kindOf, hasWritten, pendingSum, ownAdds, isLive, hasLiveChild}
+use Rattle.rules.specs.Table.{highest, parentOf, kindOf, hasWritten, pendingSum, ownAdds, keptAfter, counter, lastTime, isLive, hasLiveChild}
 use Rattle.rules.specs.Held.{heldSum}
 use Rattle.rules.specs.Sound.{sound}
+use Rattle.rules.specs.Free.{nextNumber}
 use Rattle.rules.specs.Queue.{queueLength, isQueued, isQueuedReady, isWaiting}
 use Rattle.rules.specs.Event.{Event, startCode, judgeCode, isStart, isRead, isWrite, isCommit, isAbort, isAdd, isEnter, isJudge}
 use Rattle.rules.specs.Nearest.{readSum}
@@ -62,8 +63,11 @@ isNotLive w n = not (eqb n 0) && not (isLive w n)
 abbrev pub tableFullCause : ℕ
 tableFullCause = 6
 
+-- no number is free; asked of a start alone
 abbrev pub isTableFull : List ℕ → Bool → Bool
-isTableFull w start = start && leb mostActions (highest w)
+isTableFull w start =
+    let full = eqb (nextNumber w) 0 in
+    cond start full false
 
 -- from here on the Bool is whether the event uses what the cause asks of
 abbrev pub accountCause : ℕ
@@ -117,6 +121,13 @@ queueCause = 18
 abbrev pub isOvertaking : List ℕ → Bool → ℕ → Bool
 isOvertaking w used n = used && not (eqb (queueLength w (kindOf w n)) 0)
 
+abbrev pub timeCause : ℕ
+timeCause = 19
+
+-- no end time of the action's kind is left for it: the counter and those who wait in its queue have come to the last
+abbrev pub isTimeSpent : List ℕ → Bool → ℕ → Bool
+isTimeSpent w used n = used && leb lastTime (counter w (kindOf w n) + queueLength w (kindOf w n))
+
 abbrev pub sumCause : ℕ
 sumCause = 15
 
@@ -126,9 +137,17 @@ sumCause = 15
 unfoldable pub commitSum : List ℕ → List ℕ → ℕ → ℕ → ℤ
 commitSum w base n k = heldSum w base (parentOf w n) k +ℤ pendingSum w n k
 
--- one of those for which n has written the account is outside; a commit with a clash makes none
+-- that sum is outside; without a write of n's there is none
+abbrev pub isCopyOutside : List ℕ → List ℕ → ℕ → ℕ → Bool
+isCopyOutside w base n k = hasWritten w n k && not (isAmount (commitSum w base n k))
+
+-- what is kept for charge account k at n's parent, or as the store's, is outside after n's commit
+abbrev pub isKeptOutside : List ℕ → ℕ → ℕ → Bool
+isKeptOutside w n k = not (isAmount (keptAfter w n (parentOf w n) k))
+
+-- one of them is, for one of the charge accounts; a commit with a clash makes none
 unfoldable pub isCommitOutside : List ℕ → List ℕ → ℕ → Found → Bool
-isCommitOutside w base n Nothing = any (λ k. hasWritten w n k && not (isAmount (commitSum w base n k))) chargeAccounts
+isCommitOutside w base n Nothing = any (λ k. isCopyOutside w base n k || isKeptOutside w n k) chargeAccounts
 isCommitOutside w base n (At t k) = false
 
 -- the sum that n's read of account k answers is outside; an account that is no charge account has none
@@ -181,6 +200,7 @@ earlyCauses w e =
     ∷ record { number = queuedCause; applies = isQueuedAlready w (not (isJudge e || isAbort e)) (e .number) }
     ∷ record { number = judgeCause; applies = isJudgeVain w (isJudge e) (e .number) }
     ∷ record { number = queueCause; applies = isOvertaking w (isCommit e) (e .number) }
+    ∷ record { number = timeCause; applies = isTimeSpent w (isCommit e || isEnter e) (e .number) }
     ∷ []
 
 -- the last

@@ -1,13 +1,15 @@
 -- RULES 4.5 and 4.8: what a commit that passes leaves. The accounts have their turns from the last down; then the action ends;
--- then its parent, where that is an action, gets its sets. Assumes nothing.
+-- then its totals are kept at its parent, or as the store's; then its parent, where that is an action, gets its sets.
+-- Assumes nothing.
 use Prim.Native.Nat.{ℕ, _+_, _-_, min}
 use mathlib.Core.Bool.{Bool, cond, not, _&&_}
 use mathlib.Core.List.{List}
 use lib.Dec.{eqb}
 use lib.IntN.{_+ℤ_}
 use Rattle.rules.specs.Range.{downTo, fold}
-use Rattle.rules.specs.Card.{accountCount, isCharge, shadowPlace, cardAt}
-use Rattle.rules.specs.Table.{committed, counter, withCounter, kindOf, withState, withEndTime, readEntry, hasRead, subTime, writeEntry, entered, hasWritten, hasWrites, hasCard, pendingSum, withBothSets}
+use Rattle.rules.specs.Card.{accountCount, isCharge, chargeAccounts, shadowPlace, cardAt}
+use Rattle.rules.specs.Amount.{amountWord}
+use Rattle.rules.specs.Table.{committed, withFields, counter, withCounter, kindOf, withState, withEndTime, readEntry, hasRead, subTime, writeEntry, entered, hasWritten, hasWrites, hasCard, pendingSum, keptField, keptAfter, withBothSets}
 use Rattle.rules.specs.Ledger.{Ledger, withTable}
 use Rattle.rules.specs.Held.{heldSum, withHeldCard, withHeldSum}
 
@@ -39,6 +41,12 @@ commitCounter w n = cond (hasWrites w n) (counter w (kindOf w n) + 1) (counter w
 -- state, end time and that counter after n's commit passes; the other counter stays
 abbrev pub endTable : List ℕ → ℕ → List ℕ
 endTable w n = withCounter (withEndTime (withState w n committed) n (commitTime w n)) (kindOf w n) (commitCounter w n)
+
+-- ---- RULES 4.5: the kept sums
+
+-- n's totals added to what is kept in row p, which is its parent's or, where p is 0, the store's
+unfoldable pub keepTable : List ℕ → ℕ → ℕ → List ℕ
+keepTable w n p = withFields w p keptField chargeAccounts (λ k. amountWord (keptAfter w n p k))
 
 -- ---- RULES 4.5: the sets of a parent that is an action
 
@@ -72,4 +80,5 @@ unfoldable pub committedUnder : Ledger → ℕ → ℕ → Ledger
 committedUnder s n p =
     let copied = copiedDown s n p 0 in
     let ended = endTable (copied .table) n in
-    withTable copied (cond (eqb p 0) ended (joinTable ended n p))
+    let kept = keepTable ended n p in
+    withTable copied (cond (eqb p 0) kept (joinTable kept n p))

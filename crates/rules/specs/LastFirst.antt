@@ -3,9 +3,10 @@
 -- Assumes nothing.
 use Prim.Native.Nat.{ℕ, _≤_, _<_}
 use mathlib.Core.Path.{_≡_}
+use mathlib.Core.Bool.{true}
 use Rattle.rules.specs.Range.{fold}
 use Rattle.rules.specs.Card.{accountCount, accounts, IsAccount, IsCharge, StoresFit}
-use Rattle.rules.specs.Table.{parentOf}
+use Rattle.rules.specs.Table.{parentOf, isLive}
 use Rattle.rules.specs.Sound.{IsGiven, Sound}
 use Rattle.rules.specs.Ledger.{Ledger}
 use Rattle.rules.specs.Held.{heldCard, heldSum}
@@ -22,14 +23,16 @@ pub record LastFirst (s : Ledger) (n p k : ℕ) : Type 0 where
   pub fromHereUp : (j : ℕ) → IsAccount j → k ≤ j → HoldsSame p j (copiedDown s n p k) (committedUnder s n p)
   pub below : (j : ℕ) → IsAccount j → j < k → HoldsSame p j (copiedDown s n p k) s
 
--- It is so after every turn, also after none, of the commit of any action of any sound table.
+-- It is so after every turn, also after none, of the commit of any live action of any sound table.
 abbrev pub CopiesLastFirst : Type 0
 CopiesLastFirst =
-    (s : Ledger) → Sound (s .table) → StoresFit (s .base) (s .shadow) → (n : ℕ) → IsGiven (s .table) n → (k : ℕ) →
+    (s : Ledger) → Sound (s .table) → StoresFit (s .base) (s .shadow) →
+    (n : ℕ) → IsGiven (s .table) n → isLive (s .table) n ≡ true → (k : ℕ) →
     k ≤ accountCount → LastFirst s n (parentOf (s .table) n) k
 
 -- With the accounts rising all turns together leave the same.
 abbrev pub CopiesTellNoOrder : Type 0
 CopiesTellNoOrder =
-    (s : Ledger) → Sound (s .table) → StoresFit (s .base) (s .shadow) → (n : ℕ) → IsGiven (s .table) n →
+    (s : Ledger) → Sound (s .table) → StoresFit (s .base) (s .shadow) →
+    (n : ℕ) → IsGiven (s .table) n → isLive (s .table) n ≡ true →
     let p = parentOf (s .table) n in copiedDown s n p 0 ≡ fold (λ k now. copyOne now n p k) accounts s

@@ -7,6 +7,7 @@ pub mod Table
 pub mod Ledger
 pub mod Held
 pub mod Walk
+pub mod Free
 pub mod Queue
 pub mod Sound
 pub mod Event
@@ -26,3 +27,4 @@ pub mod Touch
 pub mod Tree
 pub mod Serial
 pub mod Balanced
+pub mod History

@@ -1,4 +1,4 @@
--- RULES 4.4: the search for the first clash; proofs/Clash/Searching.antt shows that it finds `firstClash`.
+-- RULES 4.4: the search for the first clash; proofs/Clash/Searching.antt shows that it finds a live action's `firstClash`.
 -- Assumes nothing.
 use Prim.Native.Nat.{ℕ, zero, suc}
 use mathlib.Core.Bool.{Bool, cond, _&&_, _||_}

@@ -1,33 +1,34 @@
 -- RULES 7: a sound table, clause by clause: each as a test, and the facts that the tests stand for as a record;
 -- proofs/Sound/Soundness.antt goes from the one to the other and back. Assumes nothing.
-use Prim.Native.Nat.{ℕ, _-_, _≤_, _<_}
+use Prim.Native.Nat.{ℕ, _+_, _-_, _≤_, _<_}
 use mathlib.Core.Path.{_≡_}
-use mathlib.Core.Logic.{_⊎_}
+use mathlib.Core.Logic.{_⊎_, _≢_}
 use mathlib.Core.Bool.{Bool, true, false, not, _&&_, _||_}
 use mathlib.Core.List.{List, [], _∷_, map}
-use lib.Dec.{leb, ltb, eqb}
+use lib.Dec.{leb, eqb}
 use lib.ListN.{length}
-use Rattle.rules.specs.Range.{upFrom, any, all, count}
+use Rattle.rules.specs.Range.{upFrom, any, all}
 use Rattle.rules.specs.Kind.{IsKind, kinds}
 use Rattle.rules.specs.Card.{accountCount, accounts, IsCharge, chargeAccounts}
-use Rattle.rules.specs.Table.{tableLength, mostActions, live, committed, aborted, highest, counter, parentOf, kindOf, stateOf, endTime, hasRead, readTime, hasWritten, pendingWord, isLive, isCommitted, hasEnd, actions, hasLiveChild}
+use Rattle.rules.specs.Table.{tableLength, mostActions, live, committed, aborted, highest, counter, lastTime, parentOf, kindOf, stateOf, endTime, hasRead, readTime, hasWritten, pendingWord, isLive, hasEnd, actions, hasLiveChild}
+use Rattle.rules.specs.Walk.{climbs, Climbs}
 use Rattle.rules.specs.Queue.{queueLength, queue, isQueued}
 
--- 7.3: n has committed, and is of kind h
-abbrev pub isCommittedOf : List ℕ → ℕ → ℕ → Bool
-isCommittedOf w h n = isCommitted w n && eqb (kindOf w n) h
-
--- the counter of kind h is at most the number of those
-unfoldable pub isCounted : List ℕ → ℕ → Bool
-isCounted w h = leb (counter w h) (count (isCommittedOf w h) (actions w))
+-- 7.3: the counter of kind h has room for an end time of each who waits in queue h
+unfoldable pub isBounded : List ℕ → ℕ → Bool
+isBounded w h = leb (counter w h + queueLength w h) lastTime
 
 -- 7.4: the state's word is that of a state
 abbrev pub hasState : List ℕ → ℕ → Bool
 hasState w n = eqb (stateOf w n) live || eqb (stateOf w n) committed || eqb (stateOf w n) aborted
 
--- 7.5: the parent's number is lower
-abbrev pub hasParentBelow : List ℕ → ℕ → Bool
-hasParentBelow w n = ltb (parentOf w n) n
+-- 7.5: the parent is the store, or its number is at most the highest given so far
+abbrev pub hasParentKnown : List ℕ → ℕ → Bool
+hasParentKnown w n = leb (parentOf w n) (highest w)
+
+-- 7.14: from a live action the store is reached: there is no ring of parents among live actions (proofs/Sound/Rings.antt)
+unfoldable pub hasWayUp : List ℕ → ℕ → Bool
+hasWayUp w n = let up = climbs (parentOf w) mostActions n in not (isLive w n) || up
 
 -- 7.6: where the action is live its parent is the store or live
 abbrev pub hasParentAlive : List ℕ → ℕ → Bool
@@ -45,12 +46,16 @@ hasReadInTime w n = not (isLive w n) || all (hasTimesIn w n) kinds
 abbrev pub hasEndInTime : List ℕ → ℕ → Bool
 hasEndInTime w n = not (hasEnd w n) || (leb 1 (endTime w n) && leb (endTime w n) (counter w (kindOf w n)))
 
--- 7.9: m has the same parent as n, and as a committed writer the same end time; asked of the numbers below n
+-- 7.9: n is a committed writer, and its parent is another than itself
+abbrev pub endsUnderAnother : List ℕ → ℕ → Bool
+endsUnderAnother w n = hasEnd w n && not (eqb (parentOf w n) n)
+
+-- m is another such, with the same parent and the same end time; asked of the numbers below n
 abbrev pub sharesEndTime : List ℕ → ℕ → ℕ → Bool
-sharesEndTime w n m = hasEnd w m && eqb (parentOf w m) (parentOf w n) && eqb (endTime w m) (endTime w n)
+sharesEndTime w n m = endsUnderAnother w m && eqb (parentOf w m) (parentOf w n) && eqb (endTime w m) (endTime w n)
 
 unfoldable pub hasEndAlone : List ℕ → ℕ → Bool
-hasEndAlone w n = not (hasEnd w n) || all (λ m. not (sharesEndTime w n m)) (upFrom 1 (n - 1))
+hasEndAlone w n = not (endsUnderAnother w n) || all (λ m. not (sharesEndTime w n m)) (upFrom 1 (n - 1))
 
 -- 7.10: no sum is pending on a charge account that isn't in the write set
 unfoldable pub hasPendingWritten : List ℕ → ℕ → Bool
@@ -60,7 +65,8 @@ hasPendingWritten w n = all (λ k. hasWritten w n k || eqb (pendingWord w n k) 0
 unfoldable pub isSoundAction : List ℕ → ℕ → Bool
 isSoundAction w n =
     hasState w n
-    && hasParentBelow w n
+    && hasParentKnown w n
+    && hasWayUp w n
     && hasParentAlive w n
     && hasReadInTime w n
     && hasEndInTime w n
@@ -90,13 +96,21 @@ unfoldable pub sound : List ℕ → Bool
 sound w =
     eqb (length w) tableLength
     && leb (highest w) mostActions
-    && all (isCounted w) kinds
+    && all (isBounded w) kinds
     && all (isSoundAction w) (actions w)
     && all (isSoundQueue w) kinds
 
--- n is the number of a started action
+-- n has been given, and so is the number of an action that is held
 abbrev pub IsGiven : List ℕ → ℕ → Type 0
 IsGiven w n = (1 ≤ n) × (n ≤ highest w)
+
+-- n is the number of a live action
+abbrev pub IsLiveAction : List ℕ → ℕ → Type 0
+IsLiveAction w n = IsGiven w n × (isLive w n ≡ true)
+
+-- n is the store or the number of a live action
+abbrev pub StoreOrLive : List ℕ → ℕ → Type 0
+StoreOrLive w n = (n ≤ highest w) × (1 ≤ n → isLive w n ≡ true)
 
 -- The same clauses as facts: of an action that waits in queue h,
 pub record MayWait (w : List ℕ) (h n : ℕ) : Type 0 where
@@ -115,16 +129,17 @@ pub record SoundQueue (w : List ℕ) (h : ℕ) : Type 0 where
 pub record Sound (w : List ℕ) : Type 0 where
   pub long : length w ≡ tableLength
   pub few : highest w ≤ mostActions
-  pub counted : (h : ℕ) → IsKind h → counter w h ≤ count (isCommittedOf w h) (actions w)
+  pub bounded : (h : ℕ) → IsKind h → counter w h + queueLength w h ≤ lastTime
   pub states : (n : ℕ) → IsGiven w n → hasState w n ≡ true
-  pub below : (n : ℕ) → IsGiven w n → parentOf w n < n
+  pub known : (n : ℕ) → IsGiven w n → parentOf w n ≤ highest w
+  pub climb : (n : ℕ) → IsGiven w n → isLive w n ≡ true → Climbs w n
   pub alive : (n : ℕ) → IsGiven w n → isLive w n ≡ true → (parentOf w n ≡ 0) ⊎ (isLive w (parentOf w n) ≡ true)
   pub reads :
       (h n k : ℕ) → IsKind h → IsGiven w n → isLive w n ≡ true → k < accountCount → hasRead w n k ≡ true →
       readTime w h n k ≤ counter w h
   pub ends : (n : ℕ) → IsGiven w n → hasEnd w n ≡ true → (1 ≤ endTime w n) × (endTime w n ≤ counter w (kindOf w n))
   pub alone :
-      (n m : ℕ) → IsGiven w n → IsGiven w m → hasEnd w n ≡ true → hasEnd w m ≡ true →
+      (n m : ℕ) → IsGiven w n → IsGiven w m → hasEnd w n ≡ true → hasEnd w m ≡ true → parentOf w n ≢ n → parentOf w m ≢ m →
       parentOf w m ≡ parentOf w n → endTime w m ≡ endTime w n → m ≡ n
   pub pendings : (n k : ℕ) → IsGiven w n → IsCharge k → hasWritten w n k ≡ false → pendingWord w n k ≡ 0
   pub lines : (h : ℕ) → IsKind h → SoundQueue w h

@@ -1,5 +1,5 @@
 -- RULES 2 and 4: what each event answers and leaves; an event of any kind is `step`. Assumes nothing.
-use Prim.Native.Nat.{ℕ, zero, suc, _+_}
+use Prim.Native.Nat.{ℕ, zero, suc, _+_, max}
 use mathlib.Core.Bool.{Bool, true, false, cond, _||_}
 use mathlib.Core.List.{List, [], _∷_, _++_}
 use lib.Dec.{eqb}
@@ -11,8 +11,9 @@ use Rattle.rules.specs.Range.{count, fold}
 use Rattle.rules.specs.Card.{isCharge, shadowPlace, withCard}
 use Rattle.rules.specs.Amount.{amountWord, amountIn}
 use Rattle.rules.specs.Kind.{topKind, subKind}
-use Rattle.rules.specs.Table.{live, aborted, highest, withHighest, counter, parentOf, withParent, kindOf, withState, withEndTime, withRead, hasRead, withSubTime, withWrite, entered, hasCard, withPending, pendingSum, ownAdds, withOwnAdds, withoutAdds, withSets, actions}
+use Rattle.rules.specs.Table.{live, aborted, highest, withHighest, counter, parentOf, withParent, kindOf, withState, withEndTime, withRead, hasRead, withSubTime, withWrite, entered, hasCard, withPending, pendingSum, ownAdds, withOwnAdds, withoutAdds, withSets, actions, isChildOf, withoutKept}
 use Rattle.rules.specs.Walk.{isAbortedBy}
+use Rattle.rules.specs.Free.{nextNumber}
 use Rattle.rules.specs.Queue.{queueLength, headOf, isHeadReady, isQueuedFailed, withTail, withReady, withoutBelow}
 use Rattle.rules.specs.Event.{Event, isStart, isRead, isWrite, isCommit, isAbort, isAdd, isEnter, isJudge}
 use Rattle.rules.specs.Commit.{commitTime, committedUnder}
@@ -34,14 +35,21 @@ outcomeOf answer table base shadow = record { answer = answer; after = ledgerOf 
 
 -- ---- RULES 2.2: start
 
-unfoldable pub startTable : List ℕ → ℕ → List ℕ
-startTable w p =
-    let n = highest w + 1 in
-    let opened = withEndTime (withState (withParent (withHighest w n) n p) n live) n 0 in
-    withSets (withoutAdds opened n) n (λ k. 0) (λ k. 0) (λ k. 0) (λ k. 0)
+-- Number n is taken from its earlier holder: each child of that one gets its own number as its parent, which makes it nobody's.
+unfoldable pub orphaned : List ℕ → ℕ → List ℕ
+orphaned w n = fold (λ m now. cond (isChildOf w n m) (withParent now m m) now) (actions w) w
+
+-- number n given to a new action under p, every word of the action set
+unfoldable pub giveTable : List ℕ → ℕ → ℕ → List ℕ
+giveTable w n p =
+    let counted = withHighest (orphaned w n) (max (highest w) n) in
+    let opened = withEndTime (withState (withParent counted n p) n live) n 0 in
+    withSets (withoutKept (withoutAdds opened n) n) n (λ k. 0) (λ k. 0) (λ k. 0) (λ k. 0)
 
 unfoldable pub start : Ledger → ℕ → Outcome
-start s p = record { answer = Started (highest (s .table) + 1); after = withTable s (startTable (s .table) p) }
+start s p =
+    let n = nextNumber (s .table) in
+    record { answer = Started n; after = withTable s (giveTable (s .table) n p) }
 
 -- ---- RULES 2.3: read
 

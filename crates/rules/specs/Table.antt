@@ -6,7 +6,7 @@ use mathlib.Core.Logic.{_⊎_}
 use mathlib.Core.Bool.{Bool, not, cond, _&&_}
 use mathlib.Core.List.{List}
 use lib.Dec.{eqb}
-use lib.IntN.{ℤ}
+use lib.IntN.{ℤ, _+ℤ_}
 use lib.ListN.{getD, set, replicate}
 use Rattle.rules.specs.Range.{upFrom, any, filter, fold}
 use Rattle.rules.specs.Card.{accounts, isCharge, chargeAccounts}
@@ -22,14 +22,14 @@ IsAction n = (1 ≤ n) × (n ≤ mostActions)
 
 -- the words of a row
 abbrev pub width : ℕ
-width = 121
+width = 129
 
 abbrev pub IsField : ℕ → Type 0
 IsField f = f < width
 
 -- the words of a table: the head's row and a row for each action
 abbrev pub tableLength : ℕ
-tableLength = 7865
+tableLength = 8385
 
 -- word f of row n
 unfoldable pub word : List ℕ → ℕ → ℕ → ℕ
@@ -70,6 +70,10 @@ counter w h = word w 0 (counterField h)
 
 abbrev pub withCounter : List ℕ → ℕ → ℕ → List ℕ
 withCounter w h v = withWord w 0 (counterField h) v
+
+-- RULES 7.3: no end time is later
+abbrev pub lastTime : ℕ
+lastTime = 4000000000
 
 -- ---- RULES 1.5: the parts of an action
 
@@ -203,6 +207,36 @@ ownAdds w n k = amountOf (ownAddsWord w n k)
 -- action n has added nothing to any of them
 unfoldable pub withoutAdds : List ℕ → ℕ → List ℕ
 withoutAdds w n = withFields w n ownAddsField chargeAccounts (λ k. 0)
+
+-- its kept sum for charge account k, which is the sum of its committed children's totals, and the word that this is; the
+-- first charge account's stands behind the subaction times. Row 0's is the store's: what the topactions that committed have
+-- brought since the opening.
+abbrev pub keptFields : ℕ
+keptFields = 97
+
+abbrev pub keptField : ℕ → ℕ
+keptField k = keptFields + k
+
+abbrev pub keptWord : List ℕ → ℕ → ℕ → ℕ
+keptWord w n k = word w n (keptField k)
+
+abbrev pub withKept : List ℕ → ℕ → ℕ → ℕ → List ℕ
+withKept w n k v = withWord w n (keptField k) v
+
+abbrev pub keptSum : List ℕ → ℕ → ℕ → ℤ
+keptSum w n k = amountOf (keptWord w n k)
+
+-- no child of action n has brought anything to any of them
+unfoldable pub withoutKept : List ℕ → ℕ → List ℕ
+withoutKept w n = withFields w n keptField chargeAccounts (λ k. 0)
+
+-- RULES 12.2: its total for charge account k: its own adds, and the totals of its committed children
+abbrev pub totalOf : List ℕ → ℕ → ℕ → ℤ
+totalOf w n k = ownAdds w n k +ℤ keptSum w n k
+
+-- p's kept sum for charge account k once its child n has committed
+abbrev pub keptAfter : List ℕ → ℕ → ℕ → ℕ → ℤ
+keptAfter w n p k = keptSum w p k +ℤ totalOf w n k
 
 -- the read set of action n given anew: account k's read entry is reads k, the subaction time beside it times k
 unfoldable pub withReads : List ℕ → ℕ → (ℕ → ℕ) → (ℕ → ℕ) → List ℕ

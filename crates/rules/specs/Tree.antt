@@ -1,15 +1,16 @@
 -- RULES 12: the tree of a table: what its actions added to the charge accounts, and what came up to each. Assumes nothing.
 use Prim.Native.Nat.{ℕ, zero, suc}
-use mathlib.Core.Bool.{Bool, not, cond, _||_}
+use mathlib.Core.Bool.{Bool, not, cond, _&&_, _||_}
 use mathlib.Core.List.{List, [], _∷_, map, flatMap}
 use lib.Dec.{eqb}
-use lib.IntN.{ℤ, pos, _+ℤ_}
+use lib.IntN.{ℤ}
 use lib.ListN.{length}
 use lib.Seq.{sets}
 use Rattle.rules.specs.Range.{any, filter}
 use Rattle.rules.specs.Card.{baseLength, chargeAccounts}
 use Rattle.rules.specs.Amount.{amountWord, isAmount, baseAmount}
-use Rattle.rules.specs.Table.{mostActions, stateOf, ownAdds, isCommitted, actions, isChildOf}
+use Rattle.rules.specs.Table.{mostActions, parentOf, stateOf, ownAdds, keptSum, totalOf, actions, isChildOf}
+use Rattle.rules.specs.Walk.{climbs}
 use Rattle.rules.specs.Sound.{sound}
 use Rattle.rules.specs.Cause.{Cause, firstCause, storeLengthCause, isStoreLengthWrong, unsoundCause, sumCause}
 
@@ -18,30 +19,6 @@ use Rattle.rules.specs.Cause.{Cause, firstCause, storeLengthCause, isSto
 -- those of p, which is an action or 0 for the store, by rising number
 unfoldable pub children : List ℕ → ℕ → List ℕ
 children w p = filter (isChildOf w p) (actions w)
-
--- those of them that have committed
-unfoldable pub committedChildren : List ℕ → ℕ → List ℕ
-committedChildren w p = filter (isCommitted w) (children w p)
-
--- ---- RULES 12.2: totals
-
--- what f gives for each of these, added up
-unfoldable pub addedUp : (ℕ → ℤ) → List ℕ → ℤ
-addedUp f [] = pos 0
-addedUp f (x ∷ xs) = f x +ℤ addedUp f xs
-
--- n's total for charge account k, from so many levels of the tree: its own adds, and the totals of its committed children
-unfoldable pub totalWithin : ℕ → List ℕ → ℕ → ℕ → ℤ
-totalWithin zero w k n = pos 0
-totalWithin (suc levels) w k n = ownAdds w n k +ℤ addedUp (totalWithin levels w k) (committedChildren w n)
-
--- its total: no sound table has more levels than there are actions (proofs/Tree/Levels.antt)
-unfoldable pub totalOf : List ℕ → ℕ → ℕ → ℤ
-totalOf w k n = totalWithin mostActions w k n
-
--- RULES 12.4: what the committed topactions brought to charge account k
-unfoldable pub topSum : List ℕ → ℕ → ℤ
-topSum w k = addedUp (totalOf w k) (committedChildren w 0)
 
 -- ---- RULES 12.3: lines
 
@@ -56,26 +33,30 @@ linesWithin zero w depth p = []
 linesWithin (suc levels) w depth p =
     flatMap (λ m. record { depth = depth; number = m } ∷ linesWithin levels w (suc depth) m) (children w p)
 
--- the report's: one for each action of a sound table (proofs/Tree/Lines.antt)
+-- the report's: one for each action that is shown (proofs/Tree/Lines.antt)
 unfoldable pub treeLines : List ℕ → List Line
 treeLines w = linesWithin mostActions w 0 0
 
+-- action n is shown: it and the parents above it are held, all the way up to the store
+unfoldable pub isShown : List ℕ → ℕ → Bool
+isShown w n = climbs (parentOf w) mostActions n
+
 -- what a line says of charge account k, and of all of them
 abbrev pub accountFigures : List ℕ → ℕ → ℕ → List ℤ
-accountFigures w n k = ownAdds w n k ∷ totalOf w k n ∷ []
+accountFigures w n k = ownAdds w n k ∷ totalOf w n k ∷ []
 
 unfoldable pub figuresOf : List ℕ → ℕ → List ℤ
 figuresOf w n = flatMap (accountFigures w n) chargeAccounts
 
--- RULES 12.4: what the last block says of charge account k: opening, sum, closing
+-- RULES 12.4: what the last block says of charge account k: opening, what the committed topactions brought, closing
 abbrev pub balanceOf : List ℕ → List ℕ → List ℕ → ℕ → List ℤ
-balanceOf w base opening k = baseAmount opening k ∷ topSum w k ∷ baseAmount base k ∷ []
+balanceOf w base opening k = baseAmount opening k ∷ keptSum w 0 k ∷ baseAmount base k ∷ []
 
 -- ---- RULES 12.5: causes
 
--- a figure for charge account k is no amount: the total of an action, or the sum of the last block
+-- a figure for charge account k is no amount: the total of an action that is shown, as every other figure is read from a word
 unfoldable pub isFigureOutside : List ℕ → ℕ → Bool
-isFigureOutside w k = any (λ n. not (isAmount (totalOf w k n))) (actions w) || not (isAmount (topSum w k))
+isFigureOutside w k = any (λ n. isShown w n && not (isAmount (totalOf w n k))) (actions w)
 
 unfoldable pub treeCauses : List ℕ → List ℕ → List ℕ → List ℕ → List Cause
 treeCauses w base shadow opening =

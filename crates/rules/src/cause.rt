@@ -36,3 +36,5 @@ pub const QUEUED: u64 = 16;
 pub const JUDGE: u64 = 17;
 
 pub const QUEUE: u64 = 18;
+
+pub const TIME: u64 = 19;

@@ -1,9 +1,9 @@
 // RULES 1.7: the table's words. Row 0 is the head, row n is action n.
 pub const MOST_ACTIONS: u64 = 64;
 
-pub const WIDTH: u64 = 121;
+pub const WIDTH: u64 = 129;
 
-pub const TABLE_LENGTH: usize = 7865;
+pub const TABLE_LENGTH: usize = 8385;
 
 // The number of the store, where an action's could stand, and the head's row.
 pub const STORE: u64 = 0;
@@ -40,6 +40,9 @@ pub const OWN_ADDS_FIELDS: u64 = 51;
 // The subaction times of a read set: for each account the one beside its read entry, from here on.
 pub const SUB_TIME_FIELDS: u64 = 89;
 
+// Its kept sums, of row 0 the store's, stand this far behind it: the first charge account's directly behind the subaction times.
+pub const KEPT_FIELDS: u64 = 97;
+
 // The moves up to a version that is where one stands, and those of a refused look.
 pub const NO_MOVES: u64 = 0;
 
@@ -48,13 +51,16 @@ pub const NO_ENTRY: u64 = 0;
 
 pub const ENTERED: u64 = 1;
 
-// The word of a pending sum, or of own adds, that is 0.
+// The word of a pending sum, of own adds or of a kept sum that is 0.
 pub const NO_SUM: u64 = 0;
 
 // The end time of an action that has none, and the first that one can have.
 pub const NO_END: u64 = 0;
 
 pub const FIRST_END: u64 = 1;
+
+// The last that one can have.
+pub const LAST_TIME: u64 = 4000000000;
 
 // States.
 pub const LIVE: u64 = 1;

@@ -2,12 +2,14 @@
 ghost use mathlib.Core.Path.{_≡_};
 ghost use Prim.Native.Nat.{_≤_};
 ghost use Rattle.rules.specs.Table.{mostActions, parentOf};
-ghost use Rattle.rules.specs.Sound.{hasState, hasParentBelow, hasParentAlive, isSoundAction};
-ghost use Rattle.rows.specs.Row.{HasRow};
+ghost use Rattle.rules.specs.Sound.{hasState, hasParentKnown, hasParentAlive, isSoundAction};
+ghost use Rattle.rows.specs.Row.{HasRow, Scannable};
 use crate::pending::has_pending_written;
 use crate::times::has_end_alone;
 use crate::times::has_end_in_time;
 use crate::times::has_read_in_time;
+use crate::way::has_way_up;
+use rows::fields::highest;
 use rows::fields::is_live;
 use rows::fields::parent;
 use rows::fields::state;
@@ -30,11 +32,11 @@ fn has_state(table: &[u64], n: u64) -> bool
     state == ABORTED
 }
 
-fn has_parent_below(table: &[u64], n: u64) -> bool
+fn has_parent_known(table: &[u64], n: u64) -> bool
     requires { ⌜ HasRow (now table) n ⌝ }
-    ensures { λ r. ⌜ r ≡ hasParentBelow (now (table .entry)) n ⌝ }
+    ensures { λ r. ⌜ r ≡ hasParentKnown (now (table .entry)) n ⌝ }
 {
-    parent(table, n) < n
+    parent(table, n) <= highest(table)
 }
 
 fn has_parent_alive(table: &[u64], n: u64) -> bool
@@ -54,13 +56,17 @@ fn has_parent_alive(table: &[u64], n: u64) -> bool
 
 // Every clause that speaks of one action.
 pub(crate) fn is_sound_action(table: &[u64], n: u64) -> bool
+    requires { ⌜ Scannable (now table) ⌝ }
     requires { ⌜ HasRow (now table) n ⌝ }
     ensures { λ r. ⌜ r ≡ isSoundAction (now (table .entry)) n ⌝ }
 {
     if !has_state(table, n) {
         return false;
     }
-    if !has_parent_below(table, n) {
+    if !has_parent_known(table, n) {
+        return false;
+    }
+    if !has_way_up(table, n) {
         return false;
     }
     if !has_parent_alive(table, n) {

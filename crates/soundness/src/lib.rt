@@ -4,3 +4,4 @@ mod pending;
 mod queue;
 pub mod sound;
 mod times;
+mod way;

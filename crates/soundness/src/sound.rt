@@ -1,61 +1,36 @@
 // The test for a sound table: the clauses on the whole of it, those of each action, and those on the queues.
 ghost use mathlib.Core.Path.{_≡_};
-ghost use Rattle.rules.specs.Range.{all, count};
+ghost use Rattle.rules.specs.Range.{all};
 ghost use Rattle.rules.specs.Kind.{IsKind, kinds};
 ghost use Rattle.rules.specs.Table.{actions};
-ghost use Rattle.rules.specs.Sound.{isCommittedOf, isCounted, isSoundAction, sound};
+ghost use Rattle.rules.specs.Sound.{isBounded, isSoundAction, sound};
 ghost use Rattle.rows.specs.Row.{HasRow, Scannable};
 use crate::action::is_sound_action;
 use crate::queue::are_sound_queues;
+use rows::entries::queue_length;
 use rows::fields::highest;
-use rows::fields::is_committed;
-use rows::fields::kind_of;
-use rows::times::counts_at_most;
+use rows::times::has_times_left;
 use rules::table::MOST_ACTIONS;
 use rules::table::SUB;
 use rules::table::TABLE_LENGTH;
 use rules::table::TOP;
 
-fn is_committed_of(table: &[u64], h: u64, n: u64) -> bool
-    requires { ⌜ HasRow (now table) n ⌝ }
-    ensures { λ r. ⌜ r ≡ isCommittedOf (now (table .entry)) h n ⌝ }
-{
-    if !is_committed(table, n) {
-        return false;
-    }
-    kind_of(table, n) == h
-}
-
-fn count_committed(table: &[u64], h: u64) -> u64
-    requires { ⌜ Scannable (now table) ⌝ }
-    ensures { λ r. ⌜ r ≡ count (isCommittedOf (now (table .entry)) h) (actions (now (table .entry))) ⌝ }
-{
-    let last = highest(table);
-    let mut found = 0;
-    for n in 1..last + 1 {
-        if is_committed_of(table, h, n) {
-            found += 1;
-        }
-    }
-    found
-}
-
-fn is_counted(table: &[u64], h: u64) -> bool
-    requires { ⌜ Scannable (now table) ⌝ }
+fn is_bounded(table: &[u64], h: u64) -> bool
+    requires { ⌜ HasRow (now table) 0 ⌝ }
     requires { ⌜ IsKind h ⌝ }
-    ensures { λ r. ⌜ r ≡ isCounted (now (table .entry)) h ⌝ }
+    ensures { λ r. ⌜ r ≡ isBounded (now (table .entry)) h ⌝ }
 {
-    counts_at_most(table, h, count_committed(table, h))
+    has_times_left(table, h, queue_length(table, h))
 }
 
-fn are_counted(table: &[u64]) -> bool
-    requires { ⌜ Scannable (now table) ⌝ }
-    ensures { λ r. ⌜ r ≡ all (isCounted (now (table .entry))) kinds ⌝ }
+fn are_bounded(table: &[u64]) -> bool
+    requires { ⌜ HasRow (now table) 0 ⌝ }
+    ensures { λ r. ⌜ r ≡ all (isBounded (now (table .entry))) kinds ⌝ }
 {
-    if !is_counted(table, TOP) {
+    if !is_bounded(table, TOP) {
         return false;
     }
-    is_counted(table, SUB)
+    is_bounded(table, SUB)
 }
 
 fn all_sound(table: &[u64]) -> bool
@@ -80,7 +55,7 @@ pub fn is_sound(table: &[u64]) -> bool
     if MOST_ACTIONS < highest(table) {
         return false;
     }
-    if !are_counted(table) {
+    if !are_bounded(table) {
         return false;
     }
     if !all_sound(table) {

@@ -1,7 +1,7 @@
 // The clauses on times, of one action: its reads, and its end.
 ghost use mathlib.Core.Path.{_≡_};
 ghost use Rattle.rules.specs.Kind.{IsKind};
-ghost use Rattle.rules.specs.Sound.{hasTimesIn, hasReadInTime, hasEndInTime, sharesEndTime, hasEndAlone};
+ghost use Rattle.rules.specs.Sound.{hasTimesIn, hasReadInTime, hasEndInTime, endsUnderAnother, sharesEndTime, hasEndAlone};
 ghost use Rattle.rows.specs.Row.{HasRow};
 use rows::fields::is_live;
 use rows::fields::parent;
@@ -51,6 +51,16 @@ pub(crate) fn has_end_in_time(table: &[u64], n: u64) -> bool
     ends_in_time(table, n)
 }
 
+fn ends_under_another(table: &[u64], n: u64) -> bool
+    requires { ⌜ HasRow (now table) n ⌝ }
+    ensures { λ r. ⌜ r ≡ endsUnderAnother (now (table .entry)) n ⌝ }
+{
+    if !has_ended(table, n) {
+        return false;
+    }
+    parent(table, n) != n
+}
+
 // The parents first: only actions of one kind have end times that can be compared.
 fn shares_end_time(table: &[u64], n: u64, m: u64) -> bool
     requires { ⌜ HasRow (now table) n ⌝ }
@@ -63,14 +73,14 @@ fn shares_end_time(table: &[u64], n: u64, m: u64) -> bool
     if !end_together(table, m, n) {
         return false;
     }
-    has_ended(table, m)
+    ends_under_another(table, m)
 }
 
 pub(crate) fn has_end_alone(table: &[u64], n: u64) -> bool
     requires { ⌜ HasRow (now table) n ⌝ }
     ensures { λ r. ⌜ r ≡ hasEndAlone (now (table .entry)) n ⌝ }
 {
-    if !has_ended(table, n) {
+    if !ends_under_another(table, n) {
         return true;
     }
     for m in 1..n {

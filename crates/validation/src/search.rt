@@ -2,7 +2,7 @@
 ghost use mathlib.Core.Path.{_≡_};
 ghost use Rattle.rules.specs.Card.{IsAccount};
 ghost use Rattle.rules.specs.Table.{kindOf};
-ghost use Rattle.rules.specs.Sound.{IsGiven, Sound};
+ghost use Rattle.rules.specs.Sound.{IsLiveAction, Sound};
 ghost use Rattle.rules.specs.Clash.{isClash, firstClash};
 ghost use Rattle.rows.specs.Row.{HasRow};
 ghost use Rattle.rows.specs.Times.{IsTime};
@@ -54,7 +54,7 @@ fn first_read(table: &[u64], n: u64) -> Time
 // The search begins with what ended after n's first read.
 pub fn first_clash(table: &[u64], n: u64) -> Found
     requires { ⌜ Sound (now table) ⌝ }
-    requires { ⌜ IsGiven (now table) n ⌝ }
+    requires { ⌜ IsLiveAction (now table) n ⌝ }
     ensures { λ r. ⌜ r ≡ firstClash (now (table .entry)) n ⌝ }
 {
     let p = parent(table, n);

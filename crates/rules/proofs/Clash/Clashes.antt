@@ -2,12 +2,11 @@
 -- answers by it. Assumes nothing.
 use Prim.Native.Nat.{ℕ, _≤_, _<_}
 use native.Mathlib.Omega.{arith}
-use mathlib.Core.Path.{_≡_, refl, sym, ap, ap₂, subst, _∙_}
-use mathlib.Core.Logic.{_↔_, _≢_, _⊎_, inl, inr, ⊎-elim}
+use mathlib.Core.Path.{_≡_, refl, sym, ap, _∙_}
+use mathlib.Core.Logic.{_↔_, _≢_, inl, inr, ⊎-elim}
 use mathlib.Core.Bool.{true, false, _&&_}
 use mathlib.Core.List.{List, [], _∷_, List·Memᴰ, List·Memᴰ·head, List·Memᴰ·tail, List·Memᴰ·not-nil, List·Memᴰ·cases-cons, List·Memᴰ·append-cases, Memᴰ·append-left, Memᴰ·append-right}
-use lib.Dec.{ltb, leb, eqb}
-use borrow.Author.Tests.{ltb-true, ltb-false, le-ltb, leb-true, leb-false, eqb-true, eqb-false}
+use borrow.Author.Tests.{le-ltb, eqb-true}
 use Rattle.rules.specs.declared.Answer.the-variants.{Committed, Failed}
 use Rattle.rules.specs.Range.{filter}
 use Rattle.rules.specs.Card.{accountCount, accounts}
@@ -15,15 +14,16 @@ use Rattle.rules.specs.Table.{highest, parentOf, kindOf, endTime, hasRea
 use Rattle.rules.specs.Sound.{IsGiven}
 use Rattle.rules.specs.declared.Found.{Found}
 use Rattle.rules.specs.declared.Found.the-variants.{Nothing, At}
-use Rattle.rules.specs.Clash.{isClash, Pair, pairsWith, clashesWith, clashes, isBefore, earlier, least, firstClash}
+use Rattle.rules.specs.Clash.{isClash, Pair, pairsWith, clashesWith, clashes, least, firstClash}
 use Rattle.rules.specs.Event.{Event, commitCode, isCommit}
 use Rattle.rules.specs.Cause.{isCommitOutside, areOutside, isSumOutside}
 use Rattle.rules.specs.Ledger.{Ledger}
 use Rattle.rules.specs.Commit.{commitTime}
 use Rattle.rules.specs.Step.{judged, commit, step}
 use Rattle.rules.proofs.Laws.EventCases.{causeIn, step-commits}
-use Rattle.rules.proofs.Laws.Tests.{and-left, and-right, and-false, or-cases, or-neither, test, not-both}
+use Rattle.rules.proofs.Laws.Tests.{and-left, and-right, and-false, not-both}
 use Rattle.rules.proofs.Laws.Ranges.{filter-only, filter-every}
+use Rattle.rules.proofs.Clash.Firsts.{Before, Pairs, FindsPair, no-pair, pair-at, pair-once, pair-same, OrPair, earlier-pair}
 
 -- ---- what is in the list
 
@@ -124,37 +124,6 @@ unread-never-clashes w n unread = empty-of-no-member (clashes w n) never
 
 -- ---- which of them is first
 
--- (t, k) comes before (u, l) or is the same: what the test `isBefore` says
-abbrev pub Before : ℕ → ℕ → ℕ → ℕ → Type 0
-Before t k u l = (t < u) ⊎ ((t ≡ u) × (k ≤ l))
-
-isBefore-true : (t k u l : ℕ) → isBefore t k u l ≡ true → Before t k u l
-isBefore-true t k u l h =
-    ⊎-elim
-    (λ p. inl (ltb-true t u p))
-    (λ p. inr (eqb-true t u (and-left (eqb t u) (leb k l) p), leb-true k l (and-right (eqb t u) (leb k l) p)))
-    (or-cases (ltb t u) (eqb t u && leb k l) h)
-
-isBefore-false : (t k u l : ℕ) → isBefore t k u l ≡ false → Before u l t k
-isBefore-false t k u l h =
-    let neither = or-neither (ltb t u) (eqb t u && leb k l) h in
-    ⊎-elim
-    (λ e. inr (omega (arith, eqb-true t u e, leb-false k l (rw e at (neither .1)))))
-    (λ e. inl (omega (arith, ltb-false t u (neither .0), eqb-false t u e)))
-    (test (eqb t u))
-
-before-trans : {t k u l v o : ℕ} → Before t k u l → Before u l v o → Before t k v o
-before-trans (inl p) (inl q) = inl (omega arith)
-before-trans (inl p) (inr q) = inl (omega arith)
-before-trans (inr p) (inl q) = inl (omega arith)
-before-trans (inr p) (inr q) = inr (omega arith)
-
-before-antisym : {t k u l : ℕ} → Before t k u l → Before u l t k → (t ≡ u) × (k ≡ l)
-before-antisym (inl p) (inl q) = absurd (omega arith)
-before-antisym (inl p) (inr q) = absurd (omega arith)
-before-antisym (inr p) (inl q) = absurd (omega arith)
-before-antisym (inr p) (inr q) = omega arith
-
 -- a pair with P has end time t and account k, and it comes before every pair with P
 pub record IsFirstOf (w : List ℕ) (P : Pair → Type 0) (t k : ℕ) : Type 0 where
   pub holder : ℕ
@@ -167,6 +136,10 @@ pub data Finds (w : List ℕ) (P : Pair → Type 0) : Found → Type 0 where
   finds-none : ((c : Pair) → P c → ⊥) → Finds w P Nothing
   finds-at : {t k : ℕ} → IsFirstOf w P t k → Finds w P (At t k)
 
+-- the end times and accounts of the pairs with P
+abbrev pub TimesOf : List ℕ → (Pair → Type 0) → Pairs
+TimesOf w P t k = (holder : ℕ) × P (record { holder = holder; account = k }) × (endTime w holder ≡ t)
+
 module _ {w : List ℕ} {P : Pair → Type 0} where
   nothing-found : Finds w P Nothing → (c : Pair) → P c → ⊥
   nothing-found (finds-none h) = h
@@ -174,14 +147,25 @@ module _ {w : List ℕ} {P : Pair → Type 0} where
   first-found : {t k : ℕ} → Finds w P (At t k) → IsFirstOf w P t k
   first-found (finds-at h) = h
 
+  -- as end times and accounts
+  finds-pair : {f : Found} → Finds w P f → FindsPair (TimesOf w P) f
+  finds-pair (finds-none none) = no-pair (λ t k (holder, p, time). none _ p)
+  finds-pair (finds-at h) =
+      pair-at
+      (record {
+        has = (h .holder, h .listed, h .time);
+        first = λ u l (holder, p, time). rw time at (h .first _ p);
+      })
+
+  pair-finds : {f : Found} → FindsPair (TimesOf w P) f → Finds w P f
+  pair-finds (no-pair none) = finds-none (λ c p. none _ _ (c .holder, p, refl))
+  pair-finds (pair-at h) =
+      let (holder, p, time) = h .has in
+      finds-at (record { holder = holder; listed = p; time = time; first = λ c q. h .first _ _ (c .holder, q, refl) })
+
   -- there is at most one first
   pub finds-once : {f g : Found} → Finds w P f → Finds w P g → f ≡ g
-  finds-once (finds-none p) (finds-none q) = refl
-  finds-once (finds-none p) (finds-at q) = absurd (p _ (q .listed))
-  finds-once (finds-at p) (finds-none q) = absurd (q _ (p .listed))
-  finds-once (finds-at p) (finds-at q) =
-      let same = before-antisym (rw (q .time) at (p .first _ (q .listed))) (rw (p .time) at (q .first _ (p .listed))) in
-      ap₂ At (same .0) (same .1)
+  finds-once p q = pair-once (finds-pair p) (finds-pair q)
 
   -- the same pairs have the same first
   pub finds-same : {Q : Pair → Type 0} {f : Found} → ((c : Pair) → P c ↔ Q c) → Finds w P f → Finds w Q f
@@ -191,51 +175,27 @@ module _ {w : List ℕ} {P : Pair → Type 0} where
       (record { holder = h .holder; listed = same _ .0 (h .listed); time = h .time; first = λ c q. h .first c (same c .1 q) })
 
 module _ (w : List ℕ) where
-  head-first :
-      (c : Pair) (cs : List Pair) →
-      ((d : Pair) → List·Memᴰ d cs → Before (endTime w (c .holder)) (c .account) (endTime w (d .holder)) (d .account)) →
-      IsFirstOf w (λ d. List·Memᴰ d (c ∷ cs)) (endTime w (c .holder)) (c .account)
-  head-first c cs before =
-      record {
-        holder = c .holder;
-        listed = List·Memᴰ·head refl;
-        time = refl;
-        first = λ d m.
-            ⊎-elim
-            (λ e. inr (ap (λ x. endTime w (x .holder)) (sym e), omega (arith, ap (λ x. x .account) e)))
-            (before d)
-            (List·Memᴰ·cases-cons m);
-      }
+  -- the end times and accounts of a list of pairs
+  abbrev TimesIn : List Pair → Pairs
+  TimesIn cs = TimesOf w (λ c. List·Memᴰ c cs)
 
-  tail-first :
-      (c : Pair) (cs : List Pair) {t k : ℕ} → IsFirstOf w (λ d. List·Memᴰ d cs) t k →
-      Before t k (endTime w (c .holder)) (c .account) → IsFirstOf w (λ d. List·Memᴰ d (c ∷ cs)) t k
-  tail-first c cs {t} {k} h before =
-      record {
-        holder = h .holder;
-        listed = List·Memᴰ·tail (h .listed);
-        time = h .time;
-        first = λ d m.
-            ⊎-elim
-            (λ e. subst (λ x. Before t k (endTime w (x .holder)) (x .account)) (sym e) before)
-            (h .first d)
-            (List·Memᴰ·cases-cons m);
-      }
+  first-or-later :
+      (c : Pair) (cs : List Pair) (t k : ℕ) → OrPair (endTime w (c .holder)) (c .account) (TimesIn cs) t k ↔ TimesIn (c ∷ cs) t k
+  first-or-later c cs t k = (
+    ⊎-elim
+        (λ it. (c .holder, List·Memᴰ·head (λ i. record { holder = c .holder; account = it .1 i }), sym (it .0)))
+        (λ (holder, r, time). (holder, List·Memᴰ·tail r, time)),
+    λ (holder, r, time).
+        ⊎-elim
+        (λ e. inl (sym time ∙ ap (λ d. endTime w (d .holder)) e, ap (λ d. d .account) e))
+        (λ later. inr (holder, later, time))
+        (List·Memᴰ·cases-cons r),
+  )
 
-  earlier-finds :
-      (c : Pair) (cs : List Pair) {f : Found} → Finds w (λ d. List·Memᴰ d cs) f →
-      Finds w (λ d. List·Memᴰ d (c ∷ cs)) (earlier (endTime w (c .holder)) (c .account) f)
-  earlier-finds c cs (finds-none empty) = finds-at (head-first c cs (λ d m. absurd (empty d m)))
-  earlier-finds c cs (finds-at {t = u} {k = l} h) =
-      ⊎-elim
-      (λ e. rw e (finds-at (head-first c cs (λ d m. before-trans (isBefore-true _ _ u l e) (h .first d m)))))
-      (λ e. rw e (finds-at (tail-first c cs h (isBefore-false _ _ u l e))))
-      (test (isBefore (endTime w (c .holder)) (c .account) u l))
-
-  least-finds : (cs : List Pair) → Finds w (λ d. List·Memᴰ d cs) (least w cs)
+  pub least-pair : (cs : List Pair) → FindsPair (TimesIn cs) (least w cs)
   unfolding least
-  least-finds [] = finds-none (λ d m. List·Memᴰ·not-nil m)
-  least-finds (c ∷ cs) = earlier-finds c cs (least-finds cs)
+  least-pair [] = no-pair (λ t k (holder, r, time). List·Memᴰ·not-nil r)
+  least-pair (c ∷ cs) = pair-same (first-or-later c cs) (earlier-pair _ _ (least-pair cs))
 
 -- t and k are the end time and the account of the first pair of n's clash list
 abbrev pub IsFirst : List ℕ → ℕ → ℕ → ℕ → Type 0
@@ -244,7 +204,7 @@ IsFirst w n t k = IsFirstOf w (λ c. List·Memᴰ c (clashes w n)) t k
 module _ (w : List ℕ) (n : ℕ) where
   pub firstClash-finds : Finds w (λ c. List·Memᴰ c (clashes w n)) (firstClash w n)
   unfolding firstClash
-  firstClash-finds = least-finds w (clashes w n)
+  firstClash-finds = pair-finds (least-pair w (clashes w n))
 
   pub firstClash-at : (t k : ℕ) → (firstClash w n ≡ At t k) ↔ IsFirst w n t k
   firstClash-at t k = (λ e. first-found (rw e at firstClash-finds), λ h. finds-once firstClash-finds (finds-at h))

@@ -10,11 +10,12 @@ use lib.Dec.{ltb}
 use borrow.Author.Tests.{ltb-true, ltb-false, lt-ltb, le-ltb, eqb-true, eq-eqb, ne-eqb}
 use Rattle.rules.specs.Range.{count}
 use Rattle.rules.specs.Kind.{kindUnder}
-use Rattle.rules.specs.Table.{hasEnd, highest, counter, parentOf, endTime, actions, isChildOf, isRecordOf, records}
-use Rattle.rules.specs.Sound.{IsGiven, Sound}
+use Rattle.rules.specs.Table.{hasEnd, highest, counter, parentOf, endTime, isCommitted, actions, isChildOf, isRecordOf, records}
+use Rattle.rules.specs.Sound.{IsGiven, StoreOrLive, Sound}
 use Rattle.rules.specs.Search.{nextAfter}
 use Rattle.rules.proofs.Laws.Tests.{and-left, and-right, and-both, and-false, test}
 use Rattle.rules.proofs.Laws.Ranges.{any-at, count-at-most, count-some, count-fewer}
+use Rattle.rules.proofs.Sound.TableChanges.{live-uncommitted}
 use Rattle.rules.proofs.Clash.Clashes.{in-records}
 
 -- ---- the next record
@@ -97,7 +98,7 @@ unfolding isRecordOf
 record-parent w p m h =
     eqb-true (parentOf w m) p (and-left (isChildOf w p m) (hasEnd w m) h)
 
-record-has-end : (w : List ℕ) (p m : ℕ) → isRecordOf w p m ≡ true → hasEnd w m ≡ true
+pub record-has-end : (w : List ℕ) (p m : ℕ) → isRecordOf w p m ≡ true → hasEnd w m ≡ true
 unfolding isRecordOf
 record-has-end w p m h = and-right (isChildOf w p m) (hasEnd w m) h
 
@@ -105,11 +106,18 @@ record-has-end w p m h = and-right (isChildOf w p m) (hasEnd w m) h
 abbrev pub RecordsApart : List ℕ → ℕ → Type 0
 RecordsApart w p = (m x : ℕ) → List·Memᴰ m (records w p) → List·Memᴰ x (records w p) → endTime w x ≡ endTime w m → x ≡ m
 
-pub sound-apart : {w : List ℕ} → Sound w → (p : ℕ) → RecordsApart w p
-sound-apart {w} s p m x a b e =
+-- a record of the store or of a live action is not its own parent: it has committed, and isn't the store
+record-other : (w : List ℕ) (p m : ℕ) → StoreOrLive w p → IsGiven w m → isRecordOf w p m ≡ true → parentOf w m ≢ m
+record-other w p m from begun is own =
+    let same : m ≡ p = sym own ∙ record-parent w p m is in
+    live-uncommitted w m (rw same (from .1 (omega arith))) (and-left (isCommitted w m) _ (record-has-end w p m is))
+
+pub sound-apart : {w : List ℕ} → Sound w → (p : ℕ) → StoreOrLive w p → RecordsApart w p
+sound-apart {w} s p from m x a b e =
     let hm = in-records w p m .0 a in
     let hx = in-records w p x .0 b in
     s .alone m x (hm .0) (hx .0) (record-has-end w p m (hm .1)) (record-has-end w p x (hx .1))
+    (record-other w p m from (hm .0) (hm .1)) (record-other w p x from (hx .0) (hx .1))
     (record-parent w p x (hx .1) ∙ sym (record-parent w p m (hm .1)))
     e
 
@@ -117,7 +125,7 @@ sound-apart {w} s p m x a b e =
 pub positive : (w : List ℕ) (p x : ℕ) → List·Memᴰ x (records w p) → 1 ≤ x
 positive w p x r = in-records w p x .0 r .0 .0
 
--- in a sound table the next record is a started action, and ends above t and within the counter of its kind
+-- in a sound table the next record is an action of the table, and ends above t and within the counter of its kind
 pub next-given :
     {w : List ℕ} → Sound w → (p t m : ℕ) → m ≡ nextAfter w t (records w p) → m ≢ 0 →
     IsGiven w m × (t < endTime w m) × (endTime w m ≤ counter w (kindUnder p))

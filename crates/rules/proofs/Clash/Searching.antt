@@ -11,7 +11,7 @@ use lib.Dec.{ltb, eqb}
 use borrow.Author.Tests.{ltb-true, eq-eqb, ne-eqb}
 use Rattle.rules.specs.Range.{upFrom}
 use Rattle.rules.specs.Card.{accountCount, accounts}
-use Rattle.rules.specs.Table.{mostActions, highest, parentOf, kindOf, endTime, hasRead, readTime, hasWritten, isRecordOf, records}
+use Rattle.rules.specs.Table.{mostActions, highest, parentOf, kindOf, endTime, hasRead, readTime, hasWritten, isLive, isRecordOf, records}
 use Rattle.rules.specs.Sound.{IsGiven, Sound}
 use Rattle.rules.specs.declared.Found.{Found}
 use Rattle.rules.specs.declared.Found.the-variants.{Nothing}
@@ -19,6 +19,7 @@ use Rattle.rules.specs.Clash.{isClash, Pair, firstClash}
 use Rattle.rules.specs.Search.{nextAfter, searchAccounts, searchRecords, search}
 use Rattle.rules.proofs.Laws.Tests.{and-right, test, not-both}
 use Rattle.rules.proofs.Laws.Ranges.{Within}
+use Rattle.rules.proofs.Laws.Walking.{parent-store-or-live}
 use Rattle.rules.proofs.Clash.Clashes.{in-records, IsClashing, in-clashes, clash-was-read, IsFirstOf, Finds, finds-none, finds-at, finds-once, finds-same, firstClash-finds}
 use Rattle.rules.proofs.Clash.Records.{record-parent, IsNext, NoneAfter, nextAfter-finds, RecordsApart, sound-apart, positive, later, later-at-most, none-later, fewer-later}
 
@@ -82,8 +83,10 @@ pub record Searchable (w : List ℕ) (n : ℕ) : Type 0 where
   few : highest w ≤ mostActions
   apart : RecordsApart w (parentOf w n)
 
-pub sound-searchable : {w : List ℕ} → Sound w → (n : ℕ) → Searchable w n
-sound-searchable {w} s n = record { few = s .few; apart = sound-apart s (parentOf w n) }
+-- .. as a sound table has it where n is live, and so its parent the store or live
+pub sound-searchable : {w : List ℕ} → Sound w → (n : ℕ) → IsGiven w n → isLive w n ≡ true → Searchable w n
+sound-searchable {w} s n begun alive =
+    record { few = s .few; apart = sound-apart s (parentOf w n) (parent-store-or-live s n begun alive) }
 
 module _ (w : List ℕ) (n : ℕ) (s : Searchable w n) where
   -- the clashes after t are those with the next record, and those after it
@@ -203,6 +206,6 @@ search-after-finds w n s t first =
     )
 
 -- RULES 4.4: the search from time 0 on
-pub search-finds : (w : List ℕ) (n : ℕ) → Sound w → search w n ≡ firstClash w n
+pub search-finds : (w : List ℕ) (n : ℕ) → Sound w → IsGiven w n → isLive w n ≡ true → search w n ≡ firstClash w n
 unfolding search
-search-finds w n s = search-after-finds w n (sound-searchable s n) 0 (λ k h read. omega arith)
+search-finds w n s begun alive = search-after-finds w n (sound-searchable s n begun alive) 0 (λ k h read. omega arith)

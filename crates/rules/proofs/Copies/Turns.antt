@@ -11,12 +11,13 @@ use lib.ListN.{length, getD}
 use borrow.Author.Tests.{eqb-true, eqb-false, eq-eqb, ne-eqb, leb-true}
 use Rattle.rules.specs.Card.{accountCount, firstCharge, isCharge, IsCard, basePlace, shadowPlace, cardAt, withCard, StoresFit}
 use Rattle.rules.specs.Amount.{amountLength, amountWord, withAmount, baseAmount}
-use Rattle.rules.specs.Table.{mostActions, IsAction, width, tableLength, word, parentOf, hasWritten, hasCard, pendingField, pendingWord, withPending, pendingSum}
+use Rattle.rules.specs.Table.{mostActions, IsAction, width, tableLength, word, parentOf, hasWritten, hasCard, pendingField, pendingWord, withPending, pendingSum, isLive}
 use Rattle.rules.specs.Sound.{IsGiven, Sound}
 use Rattle.rules.specs.Ledger.{Ledger, ledgerOf, withTable}
 use Rattle.rules.specs.Held.{heldCard, heldSum, withBaseCard, withHeldCard, withHeldSum}
 use Rattle.rules.specs.Commit.{copyOne}
 use Rattle.rules.proofs.Laws.Tests.{cond-holds, not-both, and-false}
+use Rattle.rules.proofs.Laws.Walking.{live-no-own-parent}
 use Rattle.rules.proofs.Laws.Words.{withWord-length, word-same, word-other-row, word-other-field, word-off-field}
 use Rattle.rules.proofs.Laws.Cards.{withCard-length, cardAt-same, cardAt-apart}
 use Rattle.rules.proofs.Laws.Amounts.{withAmount-length, byte-behind-amount}
@@ -130,17 +131,16 @@ pub record CanCopy (s : Ledger) (n p : ℕ) : Type 0 where
   pub few : p ≤ mostActions
   pub apart : n ≢ p
 
--- any action of a sound table can copy to its parent
+-- any live action of a sound table can copy to its parent
 pub sound-can-copy :
-    {s : Ledger} → Sound (s .table) → StoresFit (s .base) (s .shadow) → (n : ℕ) → IsGiven (s .table) n →
-    CanCopy s n (parentOf (s .table) n)
-sound-can-copy sound fits n begun =
-    let lower = sound .below n begun in
+    {s : Ledger} → Sound (s .table) → StoresFit (s .base) (s .shadow) →
+    (n : ℕ) → IsGiven (s .table) n → isLive (s .table) n ≡ true → CanCopy s n (parentOf (s .table) n)
+sound-can-copy sound fits n begun alive =
     record {
       stores = fits;
       own = (begun .0, omega (arith, begun, sound .few));
-      few = omega (arith, lower, begun, sound .few);
-      apart = λ z. omega (arith, lower);
+      few = omega (arith, sound .known n begun, sound .few);
+      apart = λ z. live-no-own-parent sound n begun alive (sym z);
     }
 
 module _ {s : Ledger} {n p : ℕ} (can : CanCopy s n p) where

@@ -16,7 +16,7 @@ use Rattle.rules.proofs.Serial.Values.{AccountValue, over, accountValue
 use Rattle.rules.proofs.Serial.AbstractState as serial
 use Rattle.rules.proofs.Serial.Shown.{shownBase}
 
--- X is the number of a started action that is live
+-- X is the number of a live action
 unfoldable pub isAlive : List ℕ → ℕ → Bool
 isAlive w X = leb 1 X && leb X (highest w) && isLive w X
 

@@ -13,12 +13,13 @@ use borrow.Author.Tests.{ltb-true, leb-true, leb-false, not-true, lt-ltb, le-ltb
 use Rattle.rules.specs.Card.{accountCount, firstCharge, isCharge, IsCharge, basePlace, shadowPlace, cardAt}
 use Rattle.rules.specs.Amount.{amountOf}
 use Rattle.rules.specs.Table.{newTable, mostActions, word, highest, parentOf, hasRead, hasWritten, hasCard, pendingSum, isLive}
+use Rattle.rules.specs.Walk.{Climbs}
 use Rattle.rules.specs.Sound.{IsGiven}
 use Rattle.rules.specs.Ledger.{Ledger}
 use Rattle.rules.specs.Serial.Effect.{nothing, puts, adds, lay}
 use Rattle.rules.proofs.Laws.Tests.{test, and-left, and-right, and-both, and-holds, cond-holds}
 use Rattle.rules.proofs.Laws.Amounts.{amount-zero}
-use Rattle.rules.proofs.Laws.Walking.{walk-store, walk-step, Climbs, parent-known, movesToStore, movesToStore-step, sound-climbs}
+use Rattle.rules.proofs.Laws.Walking.{walk-store, walk-step, movesToStore, movesToStore-step}
 use Rattle.rules.proofs.Serial.Values.{over, hides}
 use Rattle.rules.proofs.Serial.AbstractState.{Tree}
 use Rattle.rules.proofs.Serial.Ground.{ChargesSeen}
@@ -44,7 +45,7 @@ module _ (w : List ℕ) (X : ℕ) where
   unfolding isAlive
   live-alive begun = and-both (and-both (le-leb 1 X (begun .0)) (le-leb X (highest w) (begun .1)))
 
--- nobody has started in a new table
+-- no number has been given in a new table
 pub new-nobody-alive : (X : ℕ) → isAlive newTable X ≡ true → ⊥
 unfolding newTable word
 new-nobody-alive X l = omega (arith, alive-given newTable X l)
@@ -154,9 +155,9 @@ unfolding isAlive
 store-not-alive w = refl
 
 module _ (s : Ledger) (proper : Proper s) where
-  -- A live action's parent is the store or live, and so it has started. The store is told by its number alone:
+  -- A live action's parent is the store or live, and so its number was given. The store is told by its number alone:
   -- row 0 is the table's head, and what stands there in a state's place may be anything.
-  parent-alive :
+  pub parent-alive :
       (X : ℕ) → isAlive (s .table) X ≡ true →
       (parentOf (s .table) X ≡ 0) ⊎ (isAlive (s .table) (parentOf (s .table) X) ≡ true)
   parent-alive X l = cases (ℕ-discrete parent 0) (proper .sound .alive X begun (alive-live (s .table) X l))
@@ -172,14 +173,17 @@ module _ (s : Ledger) (proper : Proper s) where
           (parent ≡ 0) ⊎ (isAlive (s .table) parent ≡ true)
       cases (yes store) held = inl store
       cases (no action) (inl store) = inl store
-      cases (no action) (inr live) = inr (live-alive (s .table) parent (omega arith, parent-known (proper .sound) X begun) live)
+      cases (no action) (inr live) = inr (live-alive (s .table) parent (omega arith, proper .sound .known X begun) live)
 
-  action-climbs : (X : ℕ) → IsGiven (s .table) X → (X ≢ 0) × Climbs (s .table) X
-  action-climbs X begun = (λ z. omega (arith, begun), sound-climbs (proper .sound) X (begun .1))
+  pub live-climbs : (X : ℕ) → isAlive (s .table) X ≡ true → (X ≢ 0) × Climbs (s .table) X
+  live-climbs X l =
+      let begun = alive-given (s .table) X l in
+      (λ z. omega (arith, begun), proper .sound .climb X begun (alive-live (s .table) X l))
 
-  deeper-than-parent : (X : ℕ) → IsGiven (s .table) X → movesToStore (s .table) (parentOf (s .table) X) < movesToStore (s .table) X
-  deeper-than-parent X begun =
-      let (ne, up) = action-climbs X begun in rw (movesToStore-step (s .table) X ne up) (omega arith)
+  deeper-than-parent :
+      (X : ℕ) → isAlive (s .table) X ≡ true → movesToStore (s .table) (parentOf (s .table) X) < movesToStore (s .table) X
+  deeper-than-parent X l =
+      let (ne, up) = live-climbs X l in rw (movesToStore-step (s .table) X ne up) (omega arith)
 
   -- the rank is the moves up to the store
   pub abstract-tree : Tree (abstraction s)
@@ -188,7 +192,7 @@ module _ (s : Ledger) (proper : Proper s) where
         store-not-live = store-not-alive (s .table);
         store-view = view-store s;
         parent-held = parent-alive;
-        live-view = λ X l k. let (ne, up) = action-climbs X (alive-given (s .table) X l) in view-step s X k ne up;
+        live-view = λ X l k. let (ne, up) = live-climbs X l in view-step s X k ne up;
         rank = movesToStore (s .table);
-        rank-falls = λ X l. deeper-than-parent X (alive-given (s .table) X l);
+        rank-falls = deeper-than-parent;
       }

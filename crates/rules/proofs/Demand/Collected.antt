@@ -1,6 +1,6 @@
 -- The collector beside the engine: event by event, what demand 3's proof keeps of both, whatever the judging rule.
 -- Assumes nothing.
-use Prim.Native.Nat.{ℕ, _+_}
+use Prim.Native.Nat.{ℕ}
 use native.Mathlib.Omega.{arith}
 use native.Mathlib.Decide.{ℕ-discrete}
 use mathlib.Core.Path.{_≡_, refl, sym, ap, _∙_}
@@ -8,7 +8,8 @@ use mathlib.Core.Logic.{_≢_}
 use mathlib.Core.Bool.{true, false}
 use Rattle.rules.specs.declared.Found.the-variants.{Nothing}
 use Rattle.rules.specs.Card.{isCharge}
-use Rattle.rules.specs.Table.{highest, parentOf}
+use Rattle.rules.specs.Table.{parentOf}
+use Rattle.rules.specs.Free.{nextNumber}
 use Rattle.rules.specs.Sound.{IsGiven}
 use Rattle.rules.specs.Ledger.{Ledger}
 use Rattle.rules.specs.Cause.{isCommitOutside}
@@ -17,6 +18,7 @@ use Rattle.rules.specs.Step.{start, read}
 use Rattle.rules.specs.Serial.Effect.{Effect}
 use Rattle.rules.specs.Serial.Block.{Block, empty, child}
 use Rattle.rules.specs.Serial.Collect.{put, Known, begun, laid, grown}
+use Rattle.rules.proofs.Laws.Freeing.{Givable}
 use Rattle.rules.proofs.Laws.Permitted.{Startable, Touchable, Committable, not-own-parent}
 use Rattle.rules.proofs.Laws.Puts.{put-there, put-elsewhere, put-holds}
 use Rattle.rules.proofs.Serial.Values.{AccountValue, accountValues}
@@ -28,11 +30,11 @@ use Rattle.rules.proofs.Serial.GroundedRule.{GroundedHolds, grounded-st
 use Rattle.rules.proofs.Serial.Shown.{shownBase, accountCharges}
 use Rattle.rules.proofs.Serial.Settling.{WholeOn}
 use Rattle.rules.proofs.Serial.Running.{Whole, OnlyChildren}
-use Rattle.rules.proofs.Sound.Starting.{start-parent}
+use Rattle.rules.proofs.Sound.Giving.{give-parent}
 use Rattle.rules.proofs.Demand.Abstraction.{viewOf, abstraction}
 use Rattle.rules.proofs.Demand.Proper.{Proper}
 use Rattle.rules.proofs.Demand.AbstractionLaws.{live-alive, charges-seen}
-use Rattle.rules.proofs.Demand.Starts.{start-starts}
+use Rattle.rules.proofs.Demand.Starts.{start-givable, start-starts}
 use Rattle.rules.proofs.Demand.Reads.{read-reads}
 use Rattle.rules.proofs.Demand.Entering.{Entering, entering-writes}
 use Rattle.rules.proofs.Demand.CommitTable.{still-alive-other}
@@ -85,13 +87,16 @@ module _
   -- a start: the new action's block is empty
   module _ (p : ℕ) (permitted : Startable (s .table) p) where
     abbrev new : ℕ
-    new = highest (s .table) + 1
+    new = nextNumber (s .table)
+
+    givable : Givable (s .table) new
+    givable = start-givable (kept .proper) permitted
 
     new-put : Put (abstraction (start s p .after)) (c .block) (put (c .block) new empty) new empty
     new-put =
         record {
           new = put-there (c .block) new empty;
-          store-kept = λ _. put-elsewhere (c .block) new empty 0 (λ z. omega arith);
+          store-kept = λ _. put-elsewhere (c .block) new empty 0 (λ z. omega (arith, givable .first));
           live-kept = λ X _ ne. put-elsewhere (c .block) new empty X ne;
         }
 
@@ -100,7 +105,7 @@ module _
     new-parents =
         let starts = start-starts s (kept .proper) p permitted in
         put-holds (c .parent) new p (λ X q. Live (abstraction (start s p .after)) X → q ≡ parentOf (start s p .after .table) X)
-        (λ _. sym (start-parent (s .table) p (kept .proper .sound .long) (permitted .room)))
+        (λ _. sym (give-parent (s .table) new p (kept .proper .sound .long) (givable .first) (givable .few)))
         (λ X ne l′.
         let l = starts .nobody-else-new X l′ ne in
         kept .parents X l ∙ sym (starts .still .parent-kept X (record { before = l; after = l′ })))
@@ -115,7 +120,7 @@ module _
               (start-starts s (kept .proper) p permitted) (J .at-start s (kept .proper) p permitted) new-put;
           parents = new-parents;
           whole = put-holds (c .block) new empty (λ _. Whole) tt (λ m _. kept .whole m);
-          top = rw (put-elsewhere (c .block) new empty 0 (λ z. omega arith)) (kept .top);
+          top = rw (put-elsewhere (c .block) new empty 0 (λ z. omega (arith, givable .first))) (kept .top);
           waiting = J .waits .waits-start s (kept .proper) p permitted (kept .waiting);
         }
 

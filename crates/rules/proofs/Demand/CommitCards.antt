@@ -32,7 +32,7 @@ by-write-set w n k written unwritten =
 
 module _ {s : Ledger} (proper : Proper s) {n p : ℕ} (judged : Committable (s .table) n) (under : parentOf (s .table) n ≡ p) where
   can-copy : CanCopy s n p
-  can-copy = rw under at (sound-can-copy (proper .sound) (stores-fit proper) n (judged .own))
+  can-copy = rw under at (sound-can-copy (proper .sound) (stores-fit proper) n (judged .own) (judged .alive))
 
   -- ---- the stores
 

@@ -17,7 +17,6 @@ use Rattle.rules.specs.Commit.{committedUnder}
 use Rattle.rules.specs.Serial.Effect.{puts, adds, lay}
 use Rattle.rules.proofs.Laws.Amounts.{amount-read-back, amount-put}
 use Rattle.rules.proofs.Laws.Charges.{commitSum-top, commitSum-below, hasCard-below}
-use Rattle.rules.proofs.Laws.Walking.{parent-known}
 use Rattle.rules.proofs.Laws.Bytes.{cardAt-beyond}
 use Rattle.rules.proofs.Laws.Permitted.{Committable, commit-sum-fits}
 use Rattle.rules.proofs.Copies.Turns.{settledCard, addedWord}
@@ -137,7 +136,7 @@ module _
 
     parent-sum-laid : IsCharge k → Written → LaidOnParent
     parent-sum-laid is written =
-        let begun : IsGiven (s .table) p = (omega arith, rw under at (parent-known (proper .sound) n (judged .own))) in
+        let begun : IsGiven (s .table) p = (omega arith, rw under at (proper .sound .known n (judged .own))) in
         rw (effect-sum s n k is written)
         (effect-sum (committedUnder s n p) p k is (rw (parent-entry (is .1), written))
         ∙ ap adds (ap amountOf (parent-pending is ∙ rw written) ∙ amount-read-back _ (parent-sum-fits is written))

@@ -58,35 +58,38 @@ module _ {s : Ledger} (proper : Proper s) {n p : ℕ} (judged : Committable (s .
           (λ l. live-uncommitted (s .table) p (rw under at l) (rw e at done))
           (proper .sound .alive n (judged .own) (judged .alive))
 
-  records-kept : RecordsKept (s .table) table′
-  records-kept = record { noFewer = le-of-eq (sym (table-change proper judged under .sameHighest)); rows = committed-row-kept }
+  pub commit-records : RecordsKept (s .table) table′
+  commit-records = record { noFewer = le-of-eq (sym (table-change proper judged under .sameHighest)); rows = committed-row-kept }
 
   stale-kept : {X Y Q k : ℕ} → k < accountCount → ReadsOn (s .table) X table′ Y k → Stale s X Q k → Stale after Y Q k
-  stale-kept account on = stale-stays s after account records-kept (on .times)
+  stale-kept account on = stale-stays s after account commit-records (on .times)
 
   -- ---- a read that is stale now: n is a record of p then, with an end time above every live action's reads by the times of n's
   -- kind
 
-  module _ (k : ℕ) (account : k < accountCount) (written : hasWritten (s .table) n k ≡ true) where
-    has-writes : hasWrites (s .table) n ≡ true
-    unfolding hasWrites accounts
-    has-writes = any-at (hasWritten (s .table) n) 0 accountCount k (account-within account) written
+  own-set-kept : (g : ℕ) → readFields ≤ g → g < width → word table′ n g ≡ word (s .table) n g
+  own-set-kept =
+      commit-keeps-sets s n p (judged .own .0) (λ e. parent-other proper judged under (sym e))
 
-    own-set-kept : (g : ℕ) → readFields ≤ g → g < width → word table′ n g ≡ word (s .table) n g
-    own-set-kept =
-        commit-keeps-sets s n p (judged .own .0) (λ e. parent-other proper judged under (sym e))
+  pub own-writes-kept : hasWrites table′ n ≡ hasWrites (s .table) n
+  own-writes-kept = writes-agree (s .table) table′ n (λ j h. own-set-kept (writeField j) (omega arith) (omega arith))
 
-    now-record : isRecordOf table′ p n ≡ true
+  module _ (has-writes : hasWrites (s .table) n ≡ true) where
+    pub now-record : isRecordOf table′ p n ≡ true
     unfolding isRecordOf
     now-record =
         and-both (eq-eqb _ _ (commit-parent s n p (judged .own .0) n ∙ under))
-        (and-both (now-committed proper judged under)
-        (writes-agree (s .table) table′ n (λ j h. own-set-kept (writeField j) (omega arith) (omega arith)) ∙ has-writes))
+        (and-both (now-committed proper judged under) (own-writes-kept ∙ has-writes))
 
     now-ended : endTime table′ n ≡ counter (s .table) (kindUnder p) + 1
     unfolding commitTime
     now-ended =
         commit-end s n p (judged .own .0) (proper .sound .long) (number-few proper judged under) ∙ rw (has-writes, under)
+
+  module _ (k : ℕ) (account : k < accountCount) (written : hasWritten (s .table) n k ≡ true) where
+    has-writes : hasWrites (s .table) n ≡ true
+    unfolding hasWrites accounts
+    has-writes = any-at (hasWritten (s .table) n) 0 accountCount k (account-within account) written
 
     now-stale : (X : ℕ) → Stays (abstraction s) (abstraction after) X → HasRead (abstraction s) X k → Stale after X p k
     now-stale X x has =
@@ -98,9 +101,9 @@ module _ {s : Ledger} (proper : Proper s) {n p : ℕ} (judged : Committable (s .
         record {
           holder = n;
           begun = rw (table-change proper judged under .sameHighest) (judged .own);
-          isRecord = now-record;
+          isRecord = now-record has-writes;
           written = rw (own-set-kept (writeField k) (omega arith) (omega arith)) written;
-          later = rw now-ended (omega (arith, in-time, on));
+          later = rw (now-ended has-writes) (omega (arith, in-time, on));
         }
 
   no-effect-or-stale :

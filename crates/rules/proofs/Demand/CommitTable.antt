@@ -14,7 +14,6 @@ use Rattle.rules.specs.Ledger.{Ledger}
 use Rattle.rules.specs.Commit.{passesRead, joinedWord, joinedRead, committedUnder}
 use Rattle.rules.proofs.Laws.Tests.{and-left, and-both, not-holds, nonzero, cond-holds}
 use Rattle.rules.proofs.Laws.Permitted.{Committable, not-own-parent}
-use Rattle.rules.proofs.Laws.Walking.{parent-known}
 use Rattle.rules.proofs.Sound.TableChanges.{TableChange, live-uncommitted}
 use Rattle.rules.proofs.Sound.Committing.{commit-keeps-row, commit-state, commit-read, commit-read-time}
 use Rattle.rules.proofs.Sound.Judging.{commit-change}
@@ -71,7 +70,7 @@ module _ {s : Ledger} (proper : Proper s) {n p : ℕ} (judged : Committable (s .
   number-few = omega (arith, judged .own, proper .sound .few)
 
   pub parent-few : p ≤ mostActions
-  parent-few = omega (arith, rw under at (parent-known (proper .sound) n (judged .own)), proper .sound .few)
+  parent-few = omega (arith, rw under at (proper .sound .known n (judged .own)), proper .sound .few)
 
   pub parent-other : p ≢ n
   parent-other = rw under at (not-own-parent judged)
@@ -85,10 +84,10 @@ module _ {s : Ledger} (proper : Proper s) {n p : ℕ} (judged : Committable (s .
   module _ (k : ℕ) where
     -- the words of the parent's read
     module _ (action : 1 ≤ p) (account : k < accountCount) where
-      parent-read : readEntry (committedUnder s n p .table) p k ≡ joinedRead (s .table) n p k
+      pub parent-read : readEntry (committedUnder s n p .table) p k ≡ joinedRead (s .table) n p k
       parent-read = commit-read s n p (judged .own .0) (proper .sound .long) number-few action parent-few k account
 
-      parent-time :
+      pub parent-time :
           (h : ℕ) →
           readTime (committedUnder s n p .table) h p k
           ≡ joinedWord (s .table) n p k (readTime (s .table) h n k) (readTime (s .table) h p k)

@@ -10,13 +10,12 @@ use Rattle.rules.specs.Kind.{IsKind}
 use Rattle.rules.specs.Table.{width, aborted, word, parentField, stateField, withState, readField, subTimeField, writeField, pendingField, isLive}
 use Rattle.rules.specs.Ledger.{Ledger, withTable}
 use Rattle.rules.specs.Queue.{Entry, withQueue}
-use Rattle.rules.specs.Sound.{SoundQueue}
 use Rattle.rules.specs.Step.{abortTable}
 use Rattle.rules.proofs.Laws.Tests.{and-left}
 use Rattle.rules.proofs.Laws.Permitted.{Committable}
 use Rattle.rules.proofs.Laws.Words.{word-other-row, word-off-field}
 use Rattle.rules.proofs.Sound.TableChanges.{TableChange, live-uncommitted}
-use Rattle.rules.proofs.Sound.QueueChanges.{action-width, given-keeps, queue-change}
+use Rattle.rules.proofs.Sound.QueueChanges.{action-width, given-keeps}
 use Rattle.rules.proofs.Sound.Judging.{fail-change}
 use Rattle.rules.proofs.Sound.Aborting.{Spared, abort-keeps-field, abort-keeps-row, abort-change}
 use Rattle.rules.proofs.Serial.Events.{Drop}
@@ -61,7 +60,7 @@ module _ (s : Ledger) (proper : Proper s) (n : ℕ) (spared : Spared (s .table) 
   abort-keeps = states-keep (abort-keeps-field (s .table) n)
 
   -- what becomes aborted was live, not committed
-  abort-records : RecordsKept (s .table) (abortTable (s .table) n)
+  pub abort-records : RecordsKept (s .table) (abortTable (s .table) n)
   abort-records =
       record {
         noFewer = le-of-eq (sym (change .sameHighest));
@@ -80,13 +79,10 @@ module _ (s : Ledger) (proper : Proper s) (n : ℕ) (spared : Spared (s .table) 
 -- ---- a change of a queue: nobody goes
 
 module _
-    (s : Ledger) (proper : Proper s) (h : ℕ) (known : IsKind h) (es : List Entry)
-    (line : SoundQueue (withQueue (s .table) h es) h) where
+    (s : Ledger) (proper : Proper s) (h : ℕ) (known : IsKind h) (es : List Entry) {now : ℕ}
+    (change : TableChange (s .table) (withQueue (s .table) h es) now) where
   abbrev queued : List ℕ
   queued = withQueue (s .table) h es
-
-  queue-changed : TableChange (s .table) queued 0
-  queue-changed = queue-change (s .table) (proper .sound) h known es line 0
 
   pub queue-rows : (m : ℕ) → 1 ≤ m → RowKept (s .table) (withQueue (s .table) h es) m
   queue-rows m one g inside = given-keeps (s .table) (proper .sound) h known es m g inside (inl one)
@@ -103,12 +99,12 @@ module _
             (row (readField k) (inl (omega arith)), row (subTimeField k) (inr (omega arith, omega arith)));
       }
 
-  queue-records : RecordsKept (s .table) queued
+  pub queue-records : RecordsKept (s .table) (withQueue (s .table) h es)
   queue-records =
-      record { noFewer = le-of-eq (sym (queue-changed .sameHighest)); rows = λ m begun done. queue-rows m (begun .0) }
+      record { noFewer = le-of-eq (sym (change .sameHighest)); rows = λ m begun done. queue-rows m (begun .0) }
 
   pub queue-drops : Drop (abstraction s) (abstraction (withTable s (withQueue (s .table) h es)))
-  queue-drops = change-drops proper queue-changed queue-keeps
+  queue-drops = change-drops proper change queue-keeps
 
   pub queue-old :
       Old (abstraction s) (abstraction (withTable s (withQueue (s .table) h es))) (Stale s)
@@ -128,7 +124,7 @@ module _ (s : Ledger) (proper : Proper s) (n : ℕ) (j : Committable (s .table) 
   fail-keeps = states-keep (λ m g inside. word-off-field (s .table) n m stateField g aborted (omega arith) inside)
 
   -- the action that failed was live, not committed
-  fail-records : RecordsKept (s .table) failed
+  pub fail-records : RecordsKept (s .table) (withState (s .table) n aborted)
   fail-records =
       record {
         noFewer = le-of-eq (sym (change-failed .sameHighest));

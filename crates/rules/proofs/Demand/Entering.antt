@@ -53,7 +53,7 @@ module _
 
   -- ---- reads stay
 
-  read-entry-kept : (X j : ℕ) → j < accountCount → readEntry (t .table) X j ≡ readEntry (s .table) X j
+  pub read-entry-kept : (X j : ℕ) → j < accountCount → readEntry (t .table) X j ≡ readEntry (s .table) X j
   read-entry-kept X j h = e .fields X (readField j) (omega arith)
 
   read-kept : (X j : ℕ) → hasReadAccount (s .table) X j ≡ true → hasReadAccount (t .table) X j ≡ true
@@ -89,8 +89,8 @@ module _
       }
 
   -- a committed action isn't the one that enters
-  records-kept : RecordsKept (s .table) (t .table)
-  records-kept =
+  pub entering-records : RecordsKept (s .table) (t .table)
+  entering-records =
       record {
         noFewer = le-of-eq (sym (e .change .sameHighest));
         rows = λ m begun done. e .rows m (λ same. live-uncommitted (s .table) n alive (rw same at done));
@@ -99,4 +99,4 @@ module _
   pub entering-old : Old (abstraction s) (abstraction t) (Stale s) (Stale t)
   entering-old X Q j x has seen =
       let h = read-account (s .table) X j has in
-      stale-stays s t h records-kept (same-no-later (s .table) (t .table) X j (read-entry-kept X j h) (e .subTimes X j h))
+      stale-stays s t h entering-records (same-no-later (s .table) (t .table) X j (read-entry-kept X j h) (e .subTimes X j h))

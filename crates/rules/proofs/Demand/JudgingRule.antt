@@ -13,10 +13,10 @@ use Rattle.rules.specs.Clash.{firstClash}
 use Rattle.rules.specs.Ledger.{Ledger, withTable}
 use Rattle.rules.specs.Kind.{IsKind}
 use Rattle.rules.specs.Queue.{Entry, withQueue}
-use Rattle.rules.specs.Sound.{SoundQueue}
 use Rattle.rules.specs.Commit.{committedUnder}
 use Rattle.rules.specs.Step.{start, read, write, add, abortTable}
 use Rattle.rules.proofs.Laws.Permitted.{Startable, Touchable, Committable}
+use Rattle.rules.proofs.Sound.TableChanges.{TableChange}
 use Rattle.rules.proofs.Sound.Aborting.{Spared}
 use Rattle.rules.proofs.Serial.Rule.{Rule}
 use Rattle.rules.proofs.Demand.Abstraction.{abstraction}
@@ -40,7 +40,8 @@ pub record JudgingRule : Type 1 where
       rule .CalmFacts s (withTable s (abortTable (s .table) n))
   -- a change of a queue
   pub at-queue :
-      (s : Ledger) → Proper s → (h : ℕ) → IsKind h → (es : List Entry) → SoundQueue (withQueue (s .table) h es) h →
+      (s : Ledger) → Proper s → (h : ℕ) → IsKind h → (es : List Entry) {now : ℕ} →
+      TableChange (s .table) (withQueue (s .table) h es) now →
       rule .CalmFacts s (withTable s (withQueue (s .table) h es))
   pub at-failed-commit :
       (s : Ledger) → Proper s → (n : ℕ) → Committable (s .table) n →

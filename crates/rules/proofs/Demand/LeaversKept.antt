@@ -56,8 +56,8 @@ module _ (J : JudgingRule) (got ground opening : ℕ → AccountValue) (i : ℕ)
         let known = kind-known (parentOf (s .table) n) in
         let change = tail-change (kept .proper .sound) h known n refl free (verdictOf (s .table) h n) n in
         drop-kept J got ground opening kept i _ (change-keeps-proper (kept .proper) change)
-        (queue-drops s (kept .proper) h known _ (change .lines h known))
-        (J .at-queue s (kept .proper) h known _ (change .lines h known))
+        (queue-drops s (kept .proper) h known _ change)
+        (J .at-queue s (kept .proper) h known _ change)
         (J .waits .waits-enter s (kept .proper) n free (kept .waiting))
 
     module _ (h : ℕ) (known : IsKind h) (n : ℕ) where
@@ -66,8 +66,8 @@ module _ (J : JudgingRule) (got ground opening : ℕ → AccountValue) (i : ℕ)
       ready-kept fine =
           let change = ready-change (kept .proper .sound) h known n n in
           drop-kept J got ground opening kept i _ (change-keeps-proper (kept .proper) change)
-          (queue-drops s (kept .proper) h known _ (change .lines h known))
-          (J .at-queue s (kept .proper) h known _ (change .lines h known))
+          (queue-drops s (kept .proper) h known _ change)
+          (J .at-queue s (kept .proper) h known _ change)
           (J .waits .waits-ready s (kept .proper) h known n fine (kept .waiting))
 
       pub out-kept : KeptIn (takenOut s h n) c
@@ -75,8 +75,8 @@ module _ (J : JudgingRule) (got ground opening : ℕ → AccountValue) (i : ℕ)
       out-kept =
           let change = without-change (kept .proper .sound) h known n n in
           drop-kept J got ground opening kept i _ (change-keeps-proper (kept .proper) change)
-          (queue-drops s (kept .proper) h known _ (change .lines h known))
-          (J .at-queue s (kept .proper) h known _ (change .lines h known))
+          (queue-drops s (kept .proper) h known _ change)
+          (J .at-queue s (kept .proper) h known _ change)
           (J .waits .waits-out s (kept .proper) h known n (kept .waiting))
 
     fail-kept : (n : ℕ) → Committable (s .table) n → KeptIn (failedLedger s n) c

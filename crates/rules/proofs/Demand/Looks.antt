@@ -10,11 +10,11 @@ use lib.Dec.{eqb}
 use lib.IntN.{ℤ}
 use Rattle.rules.specs.Card.{firstCharge, isCharge, basePlace, cardAt}
 use Rattle.rules.specs.Amount.{amountIn}
+use Rattle.rules.specs.Walk.{Climbs}
 use Rattle.rules.specs.Nearest.{nearest}
 use Rattle.rules.specs.Look.{lookCause, cardPart, bytesOf, lookedCard}
 use Rattle.rules.specs.Ledger.{Ledger}
 use Rattle.rules.proofs.Laws.Tests.{test}
-use Rattle.rules.proofs.Laws.Walking.{Climbs}
 use Rattle.rules.proofs.Stores.Looking.{look-given, lookedCard-charge}
 use Rattle.rules.proofs.Serial.Values.{AccountValue, plain, charge}
 use Rattle.rules.proofs.Serial.Shown.{shownBase, cardShown, sumShown, cardRead, shown-charge}

@@ -8,7 +8,7 @@ use mathlib.Core.List.{List, []}
 use lib.IntN.{_+ℤ_}
 use Rattle.rules.specs.Card.{firstCharge, isCharge, IsCharge}
 use Rattle.rules.specs.Amount.{amountOf}
-use Rattle.rules.specs.Table.{mostActions, highest, parentField, stateField, stateOf, pendingField, isLiveChildOf, hasLiveChild, actions}
+use Rattle.rules.specs.Table.{mostActions, highest, parentField, stateField, stateOf, pendingField, isLive, isLiveChildOf, hasLiveChild, actions}
 use Rattle.rules.specs.Sound.{IsGiven}
 use Rattle.rules.specs.Event.{readBy}
 use Rattle.rules.specs.Answer.{said}
@@ -19,7 +19,7 @@ use Rattle.rules.specs.Ledger.{Ledger, withTable}
 use Rattle.rules.specs.Step.{readTable, readAnswer, read}
 use Rattle.rules.proofs.Laws.Amounts.{amount-read-back}
 use Rattle.rules.proofs.Laws.Ranges.{any-agree}
-use Rattle.rules.proofs.Laws.Walking.{walk-agree, sound-climbs}
+use Rattle.rules.proofs.Laws.Walking.{walk-agree}
 use Rattle.rules.proofs.Laws.Kinds.{unqueued-in, unqueued-of}
 use Rattle.rules.proofs.Laws.Allowed.{allowed-none}
 use Rattle.rules.proofs.Laws.Permitted.{Touchable, read-sum-fits}
@@ -59,6 +59,9 @@ module _ (s : Ledger) (proper : Proper s) (n k : ℕ) (permitted : Touchable (s 
   state-kept : (m : ℕ) → stateOf after m ≡ stateOf before m
   state-kept m = read-keeps-field before n k account m stateField (omega arith) (λ z. omega arith) (λ z. omega arith)
 
+  alive-after : isLive after n ≡ true
+  alive-after = rw (state-kept n) alive
+
   childless-after : hasLiveChild after n ≡ false
   unfolding hasLiveChild actions
   childless-after =
@@ -71,7 +74,7 @@ module _ (s : Ledger) (proper : Proper s) (n k : ℕ) (permitted : Touchable (s 
   sum-kept : readSum after (s .base) n k ≡ readSum before (s .base) n k
   unfolding readSum
   sum-kept =
-      let up = sound-climbs (proper .sound) n (own .1) in
+      let up = proper .sound .climb n own alive in
       walk-agree _ _ _ _ _ (λ _. Unit {0}) (λ m _ _. tt)
       (λ m _ _. read-keeps-field before n k account m parentField (omega arith) (λ z. omega arith) (λ z. omega arith))
       (λ m _ _ above.
@@ -107,7 +110,7 @@ module _ (s : Ledger) (proper : Proper s) (n k : ℕ) (permitted : Touchable (s 
                 codeKnown = omega arith;
                 numberKnown = own-after .1;
                 named = λ _. own .0;
-                alive = λ _. rw (state-kept n) alive;
+                alive = λ _. alive-after;
                 room = λ starts. absurd (false≢true starts);
                 accountKnown = λ _. account;
                 cardFits = λ writes. absurd (false≢true writes);
@@ -118,6 +121,7 @@ module _ (s : Ledger) (proper : Proper s) (n k : ℕ) (permitted : Touchable (s 
                 unqueued = λ _. unqueued-after;
                 judgeDue = λ judges. absurd (false≢true judges);
                 queueEmpty = λ commits. absurd (false≢true commits);
+                timeLeft = λ ends. absurd (false≢true ends);
               };
           sumsFit = fits-after;
         })
@@ -131,7 +135,7 @@ module _ (s : Ledger) (proper : Proper s) (n k : ℕ) (permitted : Touchable (s 
     card-seen : k < firstCharge → AsGiven
     unfolding readAnswer seenWith
     card-seen below =
-        let up = sound-climbs (proper-after .sound) n (own-after .1) in
+        let up = proper-after .sound .climb n own-after alive-after in
         rw (below-charges below) (view-looked (withTable s after) n k look-allowed up below)
 
     sum-seen : IsCharge k → AsGiven
@@ -139,7 +143,7 @@ module _ (s : Ledger) (proper : Proper s) (n k : ℕ) (permitted : Touchable (s 
     sum-seen is =
         let answered = amount-read-back _ (read-sum-fits before (s .base) n k fits (is-charge is)) in
         rw (is-charge is)
-        (view-sum (withTable s after) proper-after k is n (own-after .1)
+        (view-sum (withTable s after) proper-after k is n (own-after .1, λ _. alive-after)
         ∙ ap (charge (cardShown (viewOf (withTable s after) n k))) (sum-kept ∙ sym answered))
 
     pub read-seen : viewOf (read s n k .after) n k ≡ seenWith (said (read s n k .answer) .sum) (read s n k .after) n k

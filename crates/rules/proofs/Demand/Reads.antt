@@ -74,8 +74,8 @@ module _ (s : Ledger) (proper : Proper s) (n k : ℕ) (permitted : Touchable (s 
       }
 
   -- a committed action isn't the reader
-  records-kept : RecordsKept before after
-  records-kept =
+  pub read-records : RecordsKept (s .table) (readTable (s .table) n k)
+  read-records =
       record {
         noFewer = le-of-eq (sym (change .sameHighest));
         rows = λ m h done g inside.
@@ -112,4 +112,4 @@ module _ (s : Ledger) (proper : Proper s) (n k : ℕ) (permitted : Touchable (s 
 
   pub read-old : Old (abstraction s) (abstraction (read s n k .after)) (Stale s) (Stale (read s n k .after))
   unfolding read
-  read-old = keeps-old s after read-keeps records-kept
+  read-old = keeps-old s after read-keeps read-records

@@ -47,6 +47,11 @@ groundAfter e o = shownUnder (lookedIn (o .after) (e .number) (e .account))
 
 -- ---- one event
 
+-- an answer that lets some leave tells who of them committed, in the order of leaving
+pub judge-told : (b : Bool) (left : ℕ) (leavers : List ℕ) → told (judgeAnswer b left) leavers ≡ itLetLeave leavers
+judge-told true left leavers = refl
+judge-told false left leavers = refl
+
 module _
     (J : JudgingRule) (got ground opening : ℕ → AccountValue) (i : ℕ) (e : Event) {s : Ledger} {c : Known}
     (kept : Kept J got ground opening s c) where
@@ -108,11 +113,6 @@ module _
   enters : Committable (s .table) (e .number) → KeptAfter (enter s (e .number)) []
   unfolding KeptAfter enter collectOne commitsAt stepped laidAll
   enters free proper′ seen below = enter-queue-kept J got ground opening i kept (e .number) free
-
-  -- an answer that lets some leave lays their blocks, in the order of leaving
-  judge-told : (b : Bool) (left : ℕ) (leavers : List ℕ) → told (judgeAnswer b left) leavers ≡ itLetLeave leavers
-  judge-told true left leavers = refl
-  judge-told false left leavers = refl
 
   reveals : Judgeable (s .table) (e .number) → KeptAfter (judge s (e .number)) (judgeLeft s (e .number) .commits)
   unfolding KeptAfter judge judgeLeft collectOne commitsAt stepped

@@ -10,11 +10,12 @@ use borrow.Author.Tests.{ne-eqb}
 use Rattle.rules.specs.Card.{firstCharge, IsCharge, basePlace, cardAt}
 use Rattle.rules.specs.Amount.{withAmount, baseAmount}
 use Rattle.rules.specs.Table.{highest, parentOf, hasWritten, pendingSum}
-use Rattle.rules.specs.Sound.{IsGiven}
+use Rattle.rules.specs.Walk.{Climbs}
+use Rattle.rules.specs.Sound.{IsGiven, StoreOrLive}
 use Rattle.rules.specs.Nearest.{nearest, readSum}
 use Rattle.rules.specs.Ledger.{Ledger}
 use Rattle.rules.proofs.Laws.Tests.{test}
-use Rattle.rules.proofs.Laws.Walking.{Climbs, climb-holds, parent-known, sound-climbs, nearest-store, nearest-step}
+use Rattle.rules.proofs.Laws.Walking.{climb-holds, sound-climbs, nearest-store, nearest-step}
 use Rattle.rules.proofs.Laws.Charges.{readSum-store, readSum-step, hasCard-below}
 use Rattle.rules.proofs.Serial.Values.{plain, charge, over}
 use Rattle.rules.proofs.Serial.Shown.{cardShown, shown-plain, shown-charge}
@@ -67,7 +68,7 @@ module _ (s : Ledger) (proper : Proper s) (k : ℕ) (is : IsCharge k) where
   unfolding SumShown over
   action-sum m ne up above known =
       let begun : IsGiven (s .table) m = (omega arith, known) in
-      let (card, shown) = above (parent-known (proper .sound) m begun) in
+      let (card, shown) = above (proper .sound .known m begun) in
       let sum = readSum (s .table) (s .base) (parentOf (s .table) m) k in
       rw (view-step s m k ne up, shown, readSum-step (s .table) (s .base) m k ne up)
       (⊎-elim
@@ -77,12 +78,12 @@ module _ (s : Ledger) (proper : Proper s) (k : ℕ) (is : IsCharge k) where
       (card, rw (effect-unwritten s m k (is .1) unwritten, none) (ap (charge card) (sym (+ℤ-idr sum)))))
       (test (hasWritten (s .table) m k)))
 
-  sum-shown : (n : ℕ) → n ≤ highest (s .table) → SumShown n
-  sum-shown n known =
+  sum-shown : (n : ℕ) → StoreOrLive (s .table) n → SumShown n
+  sum-shown n from =
       climb-holds (s .table) (λ m. m ≤ highest (s .table) → SumShown m) (λ _. store-sum) action-sum n
-      (sound-climbs (proper .sound) n known) known
+      (sound-climbs (proper .sound) n from) (from .0)
 
   pub view-sum :
-      (n : ℕ) → n ≤ highest (s .table) → viewOf s n k ≡ charge (cardShown (viewOf s n k)) (readSum (s .table) (s .base) n k)
+      (n : ℕ) → StoreOrLive (s .table) n → viewOf s n k ≡ charge (cardShown (viewOf s n k)) (readSum (s .table) (s .base) n k)
   unfolding SumShown cardShown
-  view-sum n known = let (card, shown) = sum-shown n known in rw shown refl
+  view-sum n from = let (card, shown) = sum-shown n from in rw shown refl

@@ -1,7 +1,7 @@
 -- What makes two ledgers show the same: effects that stay, and reads that stay stale; and what an event must keep of the table,
 -- where it touches no store, to lay nothing on anybody. Assumes nothing.
 use Prim.Native.Nat.{ℕ, _≤_, _<_}
-use native.Mathlib.Nat.{le-of-eq}
+use native.Mathlib.Nat.{le-of-eq, le-refl}
 use native.Mathlib.Omega.{arith}
 use mathlib.Core.Path.{_≡_, refl, sym, _∙_}
 use mathlib.Core.Logic.{inl}
@@ -9,11 +9,12 @@ use mathlib.Core.Bool.{true}
 use mathlib.Core.List.{List}
 use Rattle.rules.specs.Card.{accountCount, firstCharge, IsCharge, shadowPlace, cardAt}
 use Rattle.rules.specs.Kind.{kindUnder}
-use Rattle.rules.specs.Table.{IsActionField, word, highest, parentField, parentOf, stateField, endField, readEntry, hasRead, subTime, readTime, writeField, writeEntry, hasWrites, pendingWord, isCommitted, hasEnd, isChildOf, isRecordOf}
+use Rattle.rules.specs.Table.{IsActionField, word, highest, parentField, parentOf, stateField, endField, readEntry, hasRead, subTime, readTime, writeField, writeEntry, hasWrites, pendingWord, isCommitted, isRecordOf}
 use Rattle.rules.specs.Sound.{IsGiven}
 use Rattle.rules.specs.Ledger.{Ledger, withTable}
-use Rattle.rules.proofs.Laws.Tests.{and-left, and-right}
+use Rattle.rules.proofs.Laws.Tests.{and-left}
 use Rattle.rules.proofs.Sound.TableChanges.{TableChange, change-keeps-sound, writes-agree}
+use Rattle.rules.proofs.Clash.Records.{record-has-end}
 use Rattle.rules.proofs.Serial.Events.{Still, lays-nothing}
 use Rattle.rules.proofs.Serial.Stale.{Old}
 use Rattle.rules.proofs.Serial.Settling.{is-charge, below-charges}
@@ -45,10 +46,9 @@ abbrev pub RowKept : List ℕ → List ℕ → ℕ → Type 0
 RowKept w v m = (g : ℕ) → IsActionField g → word v m g ≡ word w m g
 
 pub record-committed : (w : List ℕ) (Q m : ℕ) → isRecordOf w Q m ≡ true → isCommitted w m ≡ true
-unfolding isRecordOf
-record-committed w Q m is = and-left (isCommitted w m) (hasWrites w m) (and-right (isChildOf w Q m) (hasEnd w m) is)
+record-committed w Q m is = and-left (isCommitted w m) (hasWrites w m) (record-has-end w Q m is)
 
-record-kept : (w v : List ℕ) (Q m : ℕ) → RowKept w v m → isRecordOf v Q m ≡ isRecordOf w Q m
+pub record-kept : (w v : List ℕ) (Q m : ℕ) → RowKept w v m → isRecordOf v Q m ≡ isRecordOf w Q m
 unfolding isRecordOf
 record-kept w v Q m row =
     rw (
@@ -84,6 +84,19 @@ pub record RecordsKept (w v : List ℕ) : Type 0 where
   pub noFewer : highest w ≤ highest v
   pub rows : (m : ℕ) → IsGiven w m → isCommitted w m ≡ true → RowKept w v m
 
+pub records-same : (w : List ℕ) → RecordsKept w w
+records-same w = record { noFewer = le-refl (highest w); rows = λ m begun done g inside. refl }
+
+pub records-twice : {u w v : List ℕ} → RecordsKept u w → RecordsKept w v → RecordsKept u v
+records-twice {u} {w} first then =
+    record {
+      noFewer = omega (arith, first .noFewer, then .noFewer);
+      rows = λ m begun done g inside.
+          let row = first .rows m begun done in
+          then .rows m (omega (arith, begun, first .noFewer)) (rw (row stateField (inl (omega arith))) done) g inside
+          ∙ row g inside;
+    }
+
 -- then every stale read stays stale: what makes it so is one of them
 pub stale-stays :
     (s t : Ledger) {X Y Q k : ℕ} → k < accountCount → RecordsKept (s .table) (t .table) →
@@ -94,7 +107,7 @@ stale-stays s t {Q = Q} account kept no-later st =
 
 -- ---- places
 
--- the card of a started action lies inside the store
+-- the card of an action lies inside the store
 pub shadow-fits :
     {s : Ledger} → Proper s → (X k : ℕ) → IsGiven (s .table) X → k < accountCount → Fits (s .shadow) (shadowPlace X k)
 shadow-fits {s} proper X k begun account =

@@ -9,7 +9,7 @@ use mathlib.Core.Bool.{Bool, true, false, cond}
 use mathlib.Core.List.{List, [], _∷_, _++_}
 use Rattle.rules.specs.Range.{filter}
 use Rattle.rules.specs.Card.{accountCount}
-use Rattle.rules.specs.Table.{parentField, parentOf, readField, hasRead, subTimeField, writeField, hasWritten, isCommitted}
+use Rattle.rules.specs.Table.{parentField, parentOf, readField, hasRead, subTimeField, writeField, hasWritten, isCommitted, isRecordOf}
 use Rattle.rules.specs.Queue.{Entry, hasFailed, isReady}
 use Rattle.rules.specs.Sound.{IsGiven}
 use Rattle.rules.specs.Ledger.{Ledger}
@@ -71,11 +71,20 @@ module _ (s t : Ledger) where
 abbrev pub NoneCommits : List ℕ → List ℕ → Type 0
 NoneCommits w v = (m : ℕ) → IsGiven v m → isCommitted v m ≡ true → IsGiven w m × RowKept w v m
 
-module _ (s t : Ledger) (none : NoneCommits (s .table) (t .table)) (X : ℕ) (row : RowKept (s .table) (t .table) X) where
-  -- so a read of X that is stale was so before
-  stale-before : {Q k : ℕ} → k < accountCount → Stale t X Q k → Stale s X Q k
-  stale-before {Q} {k} account st =
-      let (begun, kept) = none (st .holder) (st .begun) (record-committed (t .table) Q (st .holder) (st .isRecord)) in
+-- .. whoever is a record of Q in v
+abbrev pub NoNewRecord : List ℕ → List ℕ → ℕ → Type 0
+NoNewRecord w v Q = (m : ℕ) → IsGiven v m → isRecordOf v Q m ≡ true → IsGiven w m × RowKept w v m
+
+pub none-no-new : (w v : List ℕ) → NoneCommits w v → (Q : ℕ) → NoNewRecord w v Q
+none-no-new w v none Q m begun is = none m begun (record-committed v Q m is)
+
+module _
+    (s t : Ledger) (X : ℕ) (row : RowKept (s .table) (t .table) X)
+    (none : NoNewRecord (s .table) (t .table) (parentOf (t .table) X)) where
+  -- so a read of X that is stale at X's parent was so before
+  stale-before : {k : ℕ} → k < accountCount → Stale t X (parentOf (t .table) X) k → Stale s X (parentOf (t .table) X) k
+  stale-before {k} account st =
+      let (begun, kept) = none (st .holder) (st .begun) (st .isRecord) in
       stale-by-kept-row t s account st begun (λ g field. sym (kept g field))
       (same-no-later (t .table) (s .table) X k (sym (row (readField k) (inl (omega arith))))
       (sym (row (subTimeField k) (inr (omega arith, omega arith)))))
@@ -87,15 +96,16 @@ module _ (s t : Ledger) (none : NoneCommits (s .table) (t .table)) (X : ℕ) (ro
       (account-read (s .table) X k account (rw (row (readField k) (inl (omega arith))) at (read-entered (t .table) X k has)))
       (rw (row parentField (inl (omega arith))) at (stale-before account st))
 
--- a row that is kept, at a step at which nobody commits
+-- a row that is kept, at a step at which no sibling of the action commits
 pub row-alone :
-    (s t : Ledger) → NoneCommits (s .table) (t .table) → (e : Entry) → RowKept (s .table) (t .table) (e .number) → LeftAlone s t e
-row-alone s t none e row =
+    (s t : Ledger) (e : Entry) → RowKept (s .table) (t .table) (e .number) →
+    NoNewRecord (s .table) (t .table) (parentOf (t .table) (e .number)) → LeftAlone s t e
+row-alone s t e row none =
     record {
       parent = row parentField (inl (omega arith));
       reads = λ k account has. rw (row (readField k) (inl (omega arith))) at has;
       writes = λ k account written. rw (row (writeField k) (inl (omega arith))) at written;
-      passes = λ _. passes-still s t none (e .number) row;
+      passes = λ _. passes-still s t (e .number) row none;
     }
 
 -- ---- some leave, one comes

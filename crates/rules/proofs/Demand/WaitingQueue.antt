@@ -15,7 +15,6 @@ use Rattle.rules.specs.Card.{accountCount, accounts}
 use Rattle.rules.specs.Kind.{IsKind}
 use Rattle.rules.specs.Table.{parentOf, kindOf, hasRead, hasWritten}
 use Rattle.rules.specs.Queue.{Entry, good, failed, hasFailed, ready, isReady, isOf, queue, isQueued, isQueuedFailed, withQueue, newEntry, withTail, readied, withReady, keepsPlace, withoutBelow}
-use Rattle.rules.specs.Sound.{SoundQueue}
 use Rattle.rules.specs.Ledger.{Ledger, withTable}
 use Rattle.rules.specs.Clash.{isClear, firstClash}
 use Rattle.rules.specs.Verdict.{meets, isMetBy, isMetInQueue, verdictOf}
@@ -26,12 +25,13 @@ use Rattle.rules.proofs.Laws.Sets.{account-within}
 use Rattle.rules.proofs.Laws.Kinds.{kind-known}
 use Rattle.rules.proofs.Laws.Each.{Each, each-all, each-mapped}
 use Rattle.rules.proofs.Laws.Permitted.{Committable}
-use Rattle.rules.proofs.Sound.QueueChanges.{other-queue, queue-change, tail-queue, tail-change, readied-number, ready-queue, ready-change, without-queue, without-change}
+use Rattle.rules.proofs.Sound.TableChanges.{TableChange}
+use Rattle.rules.proofs.Sound.QueueChanges.{other-queue, tail-queue, tail-change, readied-number, ready-queue, ready-change, without-queue, without-change}
 use Rattle.rules.proofs.Demand.Proper.{Proper}
 use Rattle.rules.proofs.Demand.Drops.{queue-rows}
 use Rattle.rules.proofs.Demand.Views.{RowKept}
 use Rattle.rules.proofs.Demand.Passes.{no-clash-passes}
-use Rattle.rules.proofs.Demand.Waiting.{Here, Behind, Waits, LeftAlone, waits-alone, NoneCommits, row-alone, waits-filter, waits-append}
+use Rattle.rules.proofs.Demand.Waiting.{Here, Behind, Waits, LeftAlone, waits-alone, NoneCommits, row-alone, none-no-new, waits-filter, waits-append}
 use Rattle.rules.proofs.Demand.WaitingSteps.{Waiting, each-listed, queue-waits}
 
 -- what follows where a test fails holds of each where none passes it
@@ -46,34 +46,35 @@ each-failing P f (e ∷ es) none follows =
 -- ---- a queue put in
 
 module _
-    (s : Ledger) (proper : Proper s) (h : ℕ) (known : IsKind h) (es : List Entry)
-    (line : SoundQueue (withQueue (s .table) h es) h) (stands : queue (withQueue (s .table) h es) h ≡ es) where
+    (s : Ledger) (proper : Proper s) (h : ℕ) (known : IsKind h) (es : List Entry) {now : ℕ}
+    (change : TableChange (s .table) (withQueue (s .table) h es) now) (stands : queue (withQueue (s .table) h es) h ≡ es) where
   abbrev given : Ledger
   given = withTable s (withQueue (s .table) h es)
 
   none-commits : NoneCommits (s .table) (given .table)
   none-commits m begun done = (
-    rw (queue-change (s .table) (proper .sound) h known es line 0 .sameHighest) at begun,
-    queue-rows s proper h known es line m (begun .0),
+    rw (change .sameHighest) at begun,
+    queue-rows s proper h known es change m (begun .0),
   )
 
   listed-row : (e : Entry) → any (isOf (e .number)) es ≡ true → RowKept (s .table) (given .table) (e .number)
   unfolding isQueued
-  listed-row e listed = queue-rows s proper h known es line (e .number) (line .waits (e .number) (rw stands listed) .begun .0)
+  listed-row e listed =
+      queue-rows s proper h known es change (e .number) (change .lines h known .waits (e .number) (rw stands listed) .begun .0)
 
   -- what holds of the entries before holds of those who wait in this queue then
   put-waits : Waits s es → Waits given (queue (given .table) h)
   put-waits waits =
       rw stands
       (waits-alone s given es
-      (each-listed (LeftAlone s given) es (λ e listed. row-alone s given none-commits e (listed-row e listed))) waits)
+      (each-listed (LeftAlone s given) es (λ e listed. row-alone s given e (listed-row e listed) (none-no-new (s .table) (given .table) none-commits _))) waits)
 
   -- .. and of the other queue what held of it
   other-waits : (x : ℕ) → IsKind x → x ≢ h → Waits s (queue (s .table) x) → Waits given (queue (given .table) x)
   other-waits x is apart waits =
       rw (other-queue (s .table) (proper .sound) h known es x is apart)
       (queue-waits s given x none-commits
-      (λ X queued. queue-rows s proper h known es line X (proper .sound .lines x is .waits X queued .begun .0)) waits)
+      (λ X queued. queue-rows s proper h known es change X (proper .sound .lines x is .waits X queued .begun .0)) waits)
 
   given-waits : Waiting s → Waits s es → Waiting (withTable s (withQueue (s .table) h es))
   given-waits before waits x is = go (ℕ-discrete x h)
@@ -140,7 +141,7 @@ module _ (s : Ledger) (proper : Proper s) where
     waits-enter waits =
         let verdict = verdictOf w h n in
         given-waits s proper h known (queue w h ++ (newest ∷ []))
-        (tail-change (proper .sound) h known n refl free verdict 0 .lines h known)
+        (tail-change (proper .sound) h known n refl free verdict 0)
         (tail-queue (proper .sound) h known n refl free verdict)
         waits
         (waits-append s (queue w h) newest (waits h known) newest-here (newest-behind (hasFailed newest) refl))
@@ -190,7 +191,7 @@ module _ (s : Ledger) (proper : Proper s) where
     pub waits-ready : isQueuedFailed w h n ≡ false → Waiting s → Waiting (withTable s (withReady w h n))
     unfolding withReady isQueuedFailed
     waits-ready fine waits =
-        given-waits s proper h known (map (readied n) (queue w h)) (ready-change (proper .sound) h known n 0 .lines h known)
+        given-waits s proper h known (map (readied n) (queue w h)) (ready-change (proper .sound) h known n 0)
         (ready-queue (proper .sound) h known n) waits (waits-readied (queue w h) fine (waits h known))
 
   -- ---- some are taken out
@@ -199,19 +200,19 @@ module _ (s : Ledger) (proper : Proper s) where
     abbrev fewer : List Entry
     fewer = filter (keepsPlace w n) (queue w h)
 
-    line : SoundQueue (withQueue w h fewer) h
+    change : TableChange w (withQueue w h fewer) 0
     unfolding withoutBelow
-    line = without-change (proper .sound) h known n 0 .lines h known
+    change = without-change (proper .sound) h known n 0
 
     -- what holds of those who wait holds also after, of those taken out too
     pub waits-after-out : Waiting s → Waits (takenOut s h n) (queue w h)
     unfolding withoutBelow
     waits-after-out waits =
-        queue-waits s (takenOut s h n) h (none-commits s proper h known fewer line (without-queue (proper .sound) h known n))
-        (λ X queued. queue-rows s proper h known fewer line X (proper .sound .lines h known .waits X queued .begun .0)) (waits h known)
+        queue-waits s (takenOut s h n) h (none-commits s proper h known fewer change (without-queue (proper .sound) h known n))
+        (λ X queued. queue-rows s proper h known fewer change X (proper .sound .lines h known .waits X queued .begun .0)) (waits h known)
 
     pub waits-out : Waiting s → Waiting (takenOut s h n)
     unfolding withoutBelow
     waits-out waits =
-        given-waits s proper h known fewer line (without-queue (proper .sound) h known n) waits
+        given-waits s proper h known fewer change (without-queue (proper .sound) h known n) waits
         (waits-filter s (keepsPlace w n) (queue w h) (waits h known))

@@ -1,39 +1,43 @@
 -- What holds of those who wait stays so, step by step, as long as nobody commits; and it holds when one more has entered.
 -- Assumes nothing.
-use Prim.Native.Nat.{ℕ, _+_, _≤_}
+use Prim.Native.Nat.{ℕ, _≤_}
 use native.Mathlib.Omega.{arith}
-use native.Mathlib.Decide.{ℕ-discrete}
 use mathlib.Core.Path.{_≡_, refl, sym, _∙_}
-use mathlib.Core.Logic.{_≢_}
+use mathlib.Core.Logic.{inl, _≢_}
 use mathlib.Core.Bool.{true, false}
 use mathlib.Core.List.{List, [], _∷_}
 use lib.Dec.{eqb}
 use borrow.Author.Tests.{eqb-true, eq-eqb}
 use Rattle.rules.specs.Range.{any}
 use Rattle.rules.specs.Kind.{IsKind}
-use Rattle.rules.specs.Table.{committed, aborted, highest, stateField, stateOf, withState, isLive, isCommitted}
+use Rattle.rules.specs.Table.{committed, aborted, highest, parentField, stateField, stateOf, withState, isLive, isCommitted}
 use Rattle.rules.specs.Walk.{isAbortedBy}
 use Rattle.rules.specs.Queue.{Entry, isOf, queue, isQueued, isWaiting}
 use Rattle.rules.specs.Sound.{IsGiven}
 use Rattle.rules.specs.Ledger.{Ledger, withTable}
-use Rattle.rules.specs.Step.{startTable, start, readTable, read, abortTable, failedLedger}
+use Rattle.rules.specs.Free.{nextNumber}
+use Rattle.rules.specs.Step.{giveTable, start, readTable, read, abortTable, failedLedger}
 use Rattle.rules.specs.Serial.Effect.{Effect}
 use Rattle.rules.proofs.Laws.Tests.{and-left, or-inl, or-inr, not-both, false-of-not-true}
 use Rattle.rules.proofs.Laws.Words.{word-same, word-other-row}
 use Rattle.rules.proofs.Laws.Kinds.{unqueued-in}
 use Rattle.rules.proofs.Laws.Queue.{SameLine, queue-kept}
 use Rattle.rules.proofs.Laws.Each.{Each}
+use Rattle.rules.proofs.Laws.Freeing.{Givable}
 use Rattle.rules.proofs.Laws.Permitted.{Startable, Touchable, Committable}
 use Rattle.rules.proofs.Sound.TableChanges.{live-uncommitted}
 use Rattle.rules.proofs.Sound.QueueChanges.{action-width}
-use Rattle.rules.proofs.Sound.Starting.{start-keeps-row, start-line, start-highest, start-state}
+use Rattle.rules.proofs.Sound.Giving.{give-line}
+use Rattle.rules.proofs.Sound.Starting.{live-row}
 use Rattle.rules.proofs.Sound.Reading.{read-keeps-field, read-keeps-row, read-line, read-change}
 use Rattle.rules.proofs.Sound.Judging.{fail-line, fail-change}
 use Rattle.rules.proofs.Sound.Aborting.{Spared, abort-keeps-row, abort-keeps-committed, abort-line, abort-change}
 use Rattle.rules.proofs.Demand.Proper.{Proper}
+use Rattle.rules.proofs.Demand.AbstractionLaws.{live-alive, parent-alive}
 use Rattle.rules.proofs.Demand.Views.{RowKept}
+use Rattle.rules.proofs.Demand.Starts.{start-givable, record-was-there}
 use Rattle.rules.proofs.Demand.Entering.{Entering}
-use Rattle.rules.proofs.Demand.Waiting.{Waits, LeftAlone, waits-alone, NoneCommits, row-alone}
+use Rattle.rules.proofs.Demand.Waiting.{Waits, LeftAlone, waits-alone, NoneCommits, none-no-new, row-alone}
 
 -- of all who wait, queue by queue
 abbrev pub Waiting : Ledger → Type 0
@@ -60,7 +64,7 @@ pub queue-waits :
 unfolding isQueued
 queue-waits s t h none rows =
     waits-alone s t (queue (s .table) h)
-    (each-listed (LeftAlone s t) (queue (s .table) h) (λ e listed. row-alone s t none e (rows (e .number) listed)))
+    (each-listed (LeftAlone s t) (queue (s .table) h) (λ e listed. row-alone s t e (rows (e .number) listed) (none-no-new (s .table) (t .table) none _)))
 
 pub waiting-kept :
     (s t : Ledger) → ((h : ℕ) → IsKind h → SameLine (s .table) (t .table) h) → NoneCommits (s .table) (t .table) →
@@ -88,26 +92,31 @@ module _ (s : Ledger) (proper : Proper s) where
 
   -- a start
   module _ (p : ℕ) (permitted : Startable w p) where
-    old-row : (m : ℕ) → IsGiven w m → RowKept w (startTable w p) m
-    old-row m begun g inside = start-keeps-row w p m g (action-width g inside) (begun .0) (λ z. omega (arith, begun))
+    abbrev next : ℕ
+    next = nextNumber w
 
-    old-committed : NoneCommits w (startTable w p)
-    old-committed m begun done = cases (ℕ-discrete m (highest w + 1))
-      where
-        cases : Dec (m ≡ highest w + 1) → IsGiven w m × RowKept w (startTable w p) m
-        cases (yes new) =
-            absurd
-            (live-uncommitted (startTable w p) m
-            (rw new (eq-eqb _ _ (start-state w p (proper .sound .long) (permitted .room)))) done)
-        cases (no old) =
-            let was : IsGiven w m = omega (arith, begun, start-highest w p (proper .sound .long) (permitted .room)) in
-            (was, old-row m was)
+    abbrev begun : List ℕ
+    begun = giveTable w next p
+
+    givable : Givable w next
+    givable = start-givable proper permitted
+
+    -- who waits is live and keeps its row; a record of its parent was one before
+    waiter-alone : (h : ℕ) → IsKind h → (e : Entry) → isQueued w h (e .number) ≡ true → LeftAlone s (withTable s begun) e
+    waiter-alone h known e queued =
+        let may = proper .sound .lines h known .waits (e .number) queued in
+        let row : RowKept w begun (e .number) =
+        λ g inside. live-row w next p (proper .sound) givable (e .number) g (may .begun) (may .alive) (action-width g inside) in
+        let held = parent-alive s proper (e .number) (live-alive w (e .number) (may .begun) (may .alive)) in
+        row-alone s (withTable s begun) e row
+        (λ m given is. record-was-there s proper p permitted held given (rw (row parentField (inl (omega arith))) at is))
 
     pub waits-start : Waiting s → Waiting (start s p .after)
-    unfolding start
-    waits-start =
-        waiting-kept s (withTable s (startTable w p)) (start-line w p) old-committed
-        (λ h known X queued. old-row X (waiting-given h known X queued))
+    unfolding start isQueued
+    waits-start waits h known =
+        rw (queue-kept w begun h known (give-line w next p h (givable .first) known))
+        (waits-alone s (withTable s begun) (queue w h)
+        (each-listed (LeftAlone s (withTable s begun)) (queue w h) (λ e listed. waiter-alone h known e listed)) (waits h known))
 
   -- a read
   module _ (n k : ℕ) (permitted : Touchable w n k) where

@@ -26,10 +26,11 @@ use Rattle.rules.specs.Run.{run}
 use Rattle.rules.specs.Serial.Told.{told, toldAll}
 use Rattle.rules.specs.Serial.Demand.{newOver, toldOf}
 use Rattle.rules.specs.Serial.Starts.{noStarts, lineageOf, PlainR}
+use Rattle.rules.proofs.Laws.Tests.{not-both}
 use Rattle.rules.proofs.Laws.Kinds.{kind-known}
 use Rattle.rules.proofs.Laws.EventCases.{causeIn}
 use Rattle.rules.proofs.Laws.Permitted.{Startable, Touchable, Committable, Judgeable, not-own-parent, step-by-kind}
-use Rattle.rules.proofs.Sound.Starting.{start-parent}
+use Rattle.rules.proofs.Sound.Giving.{give-parent}
 use Rattle.rules.proofs.Sound.Committing.{commit-keeps-row}
 use Rattle.rules.proofs.Sound.QueueChanges.{tail-change, ready-change, without-change, out-committable}
 use Rattle.rules.proofs.Sound.Leaving.{head-committable, leave-by-heads}
@@ -41,7 +42,7 @@ use Rattle.rules.proofs.Serial.Following.{same-starts, same-acts}
 use Rattle.rules.proofs.Demand.Abstraction.{isAlive, abstraction}
 use Rattle.rules.proofs.Demand.Proper.{Proper, new-proper, step-keeps-proper, left-proper, out-proper, dropped-proper, head-out-proper, leave-proper}
 use Rattle.rules.proofs.Demand.AbstractionLaws.{new-nobody-alive, alive-given, alive-live, live-alive, abstract-tree}
-use Rattle.rules.proofs.Demand.Starts.{start-starts}
+use Rattle.rules.proofs.Demand.Starts.{start-givable, start-starts}
 use Rattle.rules.proofs.Demand.Reads.{read-told, read-reads}
 use Rattle.rules.proofs.Demand.Entering.{entering-writes}
 use Rattle.rules.proofs.Demand.Writes.{write-enters}
@@ -87,7 +88,7 @@ Chain s left = Proper s → LetLeave (abstraction s) (abstraction (left .after))
 -- some are taken out of queue h, which nobody sees
 out-quiet : (h : ℕ) → IsKind h → (s : Ledger) → Proper s → (n : ℕ) → Quiet (abstraction s) (abstraction (takenOut s h n))
 unfolding withoutBelow
-out-quiet h known s proper n = drop-quiet (queue-drops s proper h known _ (without-change (proper .sound) h known n n .lines h known))
+out-quiet h known s proper n = drop-quiet (queue-drops s proper h known _ (without-change (proper .sound) h known n n))
 
 module _ (h : ℕ) (known : IsKind h) (s : Ledger) (proper : Proper s) (ready : isHeadReady (s .table) h ≡ true) (rest : Left) where
   abbrev n : ℕ
@@ -146,11 +147,12 @@ module _ (s : Ledger) (proper : Proper s) (e : Event) where
   unfolding AsTold start
   starts permitted =
       let st = start-starts s proper (e .number) permitted in
+      let g = start-givable proper permitted in
       change-tells (st .still)
       (record {
-        was-free = λ l. omega (arith, alive-given (s .table) _ l);
+        was-free = λ l. not-both (alive-live (s .table) _ l) (g .idle (alive-given (s .table) _ l .1));
         now-live = st .started-live;
-        under = start-parent (s .table) (e .number) (proper .sound .long) (permitted .room);
+        under = give-parent (s .table) _ (e .number) (proper .sound .long) (g .first) (g .few);
         nobody-else-new = st .nobody-else-new;
       })
 
@@ -197,7 +199,7 @@ module _ (s : Ledger) (proper : Proper s) (e : Event) where
   unfolding AsTold enter enterTable withTail
   enters free =
       let change = tail-change (proper .sound) h known (e .number) refl free _ (e .number) in
-      let d = queue-drops s proper h known _ (change .lines h known) in
+      let d = queue-drops s proper h known _ change in
       change-tells (d .still) (d .nobody-new)
 
   -- the verdict is revealed, and some leave
@@ -215,7 +217,7 @@ module _ (s : Ledger) (proper : Proper s) (e : Event) where
   revealed-chain j false left =
       let change = ready-change (proper .sound) h known (e .number) (e .number) in
       leave-tells (abstract-tree s proper)
-      (some-dropped (drop-quiet (queue-drops s proper h known _ (change .lines h known)))
+      (some-dropped (drop-quiet (queue-drops s proper h known _ change))
       (leave-chain h known _ (change-keeps-proper proper change)))
 
   reveals : Judgeable (s .table) (e .number) → AsTold (judge s (e .number)) (judgeLeft s (e .number) .commits)

@@ -1,18 +1,20 @@
 -- An event that has no cause to be refused, as facts about the table, the stores and the event. Assumes nothing.
-use Prim.Native.Nat.{ℕ, suc, _≤_, _<_}
+use Prim.Native.Nat.{ℕ, suc, _+_, _≤_, _<_}
 use native.Mathlib.Omega.{arith}
 use mathlib.Core.Path.{_≡_, refl}
-use mathlib.Core.Logic.{_↔_, Iff·rfl}
-use mathlib.Core.Bool.{Bool, true, false, not, cond, _||_}
+use mathlib.Core.Logic.{_↔_, Iff·rfl, _≢_}
+use mathlib.Core.Bool.{Bool, true, false, not, cond, _||_, false≢true}
 use mathlib.Core.List.{List, [], _++_}
 use lib.ListN.{length}
+use borrow.Author.Tests.{eqb-false, ne-eqb}
 use Rattle.rules.specs.Card.{accountCount, isCharge, cardLength, baseLength, shadowLength}
 use Rattle.rules.specs.Amount.{isAddable, amountIn}
-use Rattle.rules.specs.Table.{mostActions, highest, kindOf, isLive, hasLiveChild}
+use Rattle.rules.specs.Table.{highest, kindOf, isLive, hasLiveChild, counter, lastTime}
 use Rattle.rules.specs.Queue.{queueLength, isQueued, isQueuedReady, isWaiting}
 use Rattle.rules.specs.Sound.{sound}
+use Rattle.rules.specs.Free.{nextNumber}
 use Rattle.rules.specs.Event.{Event, startCode, judgeCode, isStart, isRead, isWrite, isCommit, isAbort, isAdd, isEnter, isJudge}
-use Rattle.rules.specs.Cause.{isStoreLengthWrong, isCodeUnknown, isNumberUnknown, isNotLive, isTableFull, isAccountUnknown, isCardLengthWrong, isKindWrong, isAmountTooLarge, isChildLive, isQueuedAlready, isJudgeVain, isOvertaking, isSumOutside, Cause, firstCause, storeCauses, earlyCauses, lateCauses, causesOf, causeOf}
+use Rattle.rules.specs.Cause.{isStoreLengthWrong, isCodeUnknown, isNumberUnknown, isNotLive, isTableFull, isAccountUnknown, isCardLengthWrong, isKindWrong, isAmountTooLarge, isChildLive, isQueuedAlready, isJudgeVain, isOvertaking, isTimeSpent, isSumOutside, Cause, firstCause, storeCauses, earlyCauses, lateCauses, causesOf, causeOf}
 use Rattle.rules.proofs.Laws.Tests.{not-holds, not-fails, and-holds, and-fails, and-fails-left, or-fails, eqb-holds, nonzero, leb-holds, leb-fails, ltb-fails}
 
 -- ---- what each cause denies
@@ -29,8 +31,9 @@ number-known w start n = simp (or-fails, and-fails-left, not-holds, ltb-fails, n
 number-alive : (w : List ℕ) (n : ℕ) → (isNotLive w n ≡ false) ↔ (1 ≤ n → isLive w n ≡ true)
 number-alive w n = simp (and-fails, not-holds, not-fails, nonzero) Iff·rfl
 
-table-room : (w : List ℕ) (start : Bool) → (isTableFull w start ≡ false) ↔ (start ≡ true → highest w < mostActions)
-table-room w start = simp (and-fails, leb-fails) Iff·rfl
+number-left : (w : List ℕ) (start : Bool) → (isTableFull w start ≡ false) ↔ (start ≡ true → nextNumber w ≢ 0)
+number-left w true = (λ some _. eqb-false _ _ some, λ some. ne-eqb _ _ (some refl))
+number-left w false = (λ _ never. absurd (false≢true never), λ _. refl)
 
 account-known : (used : Bool) (k : ℕ) → (isAccountUnknown used k ≡ false) ↔ (used ≡ true → k < accountCount)
 account-known used k = simp (and-fails, leb-fails) Iff·rfl
@@ -60,6 +63,11 @@ judge-due w used n = simp (and-fails, or-fails, not-fails) Iff·rfl
 queue-empty : (w : List ℕ) (used : Bool) (n : ℕ) → (isOvertaking w used n ≡ false) ↔ (used ≡ true → queueLength w (kindOf w n) ≡ 0)
 queue-empty w used n = simp (and-fails, not-fails, eqb-holds) Iff·rfl
 
+time-left :
+    (w : List ℕ) (used : Bool) (n : ℕ) →
+    (isTimeSpent w used n ≡ false) ↔ (used ≡ true → counter w (kindOf w n) + queueLength w (kindOf w n) < lastTime)
+time-left w used n = simp (and-fails, leb-fails) Iff·rfl
+
 -- ---- all of them together
 
 -- what holds of an event that has none of the early causes
@@ -68,7 +76,7 @@ pub record EarlyAllowed (w : List ℕ) (e : Event) : Type 0 where
   pub numberKnown : e .number ≤ highest w
   pub named : isStart e ≡ false → 1 ≤ e .number
   pub alive : 1 ≤ e .number → isLive w (e .number) ≡ true
-  pub room : isStart e ≡ true → highest w < mostActions
+  pub room : isStart e ≡ true → nextNumber w ≢ 0
   pub accountKnown : (isRead e || isWrite e || isAdd e) ≡ true → e .account < accountCount
   pub cardFits : (isWrite e || isAdd e) ≡ true → length (e .card) ≡ cardLength
   pub chargeAdded : isAdd e ≡ true → isCharge (e .account) ≡ true
@@ -80,6 +88,8 @@ pub record EarlyAllowed (w : List ℕ) (e : Event) : Type 0 where
       isJudge e ≡ true →
       (isQueued w (kindOf w (e .number)) (e .number) ≡ true) × (isQueuedReady w (kindOf w (e .number)) (e .number) ≡ false)
   pub queueEmpty : isCommit e ≡ true → queueLength w (kindOf w (e .number)) ≡ 0
+  pub timeLeft :
+      (isCommit e || isEnter e) ≡ true → counter w (kindOf w (e .number)) + queueLength w (kindOf w (e .number)) < lastTime
 
 -- what holds of an event that isn't refused
 pub record Allowed (w base shadow : List ℕ) (e : Event) : Type 0 where
@@ -110,13 +120,14 @@ module _ (w : List ℕ) (e : Event) where
       let (childLive, none₁₀) = not-given _ _ _ none₉ in
       let (waiting, none₁₁) = not-given _ _ _ none₁₀ in
       let (vain, none₁₂) = not-given _ _ _ none₁₁ in
-      let (overtaking, none) = not-given _ _ _ none₁₂ in (
+      let (overtaking, none₁₃) = not-given _ _ _ none₁₂ in
+      let (spent, none) = not-given _ _ _ none₁₃ in (
         record {
           codeKnown = code-known (e .code) .0 codeUnknown;
           numberKnown = number-known w (isStart e) (e .number) .0 numberUnknown .0;
           named = number-known w (isStart e) (e .number) .0 numberUnknown .1;
           alive = number-alive w (e .number) .0 notLive;
-          room = table-room w (isStart e) .0 full;
+          room = number-left w (isStart e) .0 full;
           accountKnown = account-known (isRead e || isWrite e || isAdd e) (e .account) .0 accountUnknown;
           cardFits = card-fits (isWrite e || isAdd e) (e .card) .0 card;
           chargeAdded = kind-right e .0 kind .0;
@@ -126,6 +137,7 @@ module _ (w : List ℕ) (e : Event) where
           unqueued = not-waiting w (not (isJudge e || isAbort e)) (e .number) .0 waiting;
           judgeDue = judge-due w (isJudge e) (e .number) .0 vain;
           queueEmpty = queue-empty w (isCommit e) (e .number) .0 overtaking;
+          timeLeft = time-left w (isCommit e || isEnter e) (e .number) .0 spent;
         },
         none,
       )
@@ -141,7 +153,7 @@ module _ (w : List ℕ) (e : Event) where
         code-known (e .code) .1 (a .codeKnown),
         number-known w (isStart e) (e .number) .1 (a .numberKnown, a .named),
         number-alive w (e .number) .1 (a .alive),
-        table-room w (isStart e) .1 (a .room),
+        number-left w (isStart e) .1 (a .room),
         account-known (isRead e || isWrite e || isAdd e) (e .account) .1 (a .accountKnown),
         card-fits (isWrite e || isAdd e) (e .card) .1 (a .cardFits),
         kind-right e .1 (a .chargeAdded, a .noCardOnCharge),
@@ -150,6 +162,7 @@ module _ (w : List ℕ) (e : Event) where
         not-waiting w (not (isJudge e || isAbort e)) (e .number) .1 (a .unqueued),
         judge-due w (isJudge e) (e .number) .1 (a .judgeDue),
         queue-empty w (isCommit e) (e .number) .1 (a .queueEmpty),
+        time-left w (isCommit e || isEnter e) (e .number) .1 (a .timeLeft),
       )
 
 module _ (w base shadow : List ℕ) (e : Event) where

@@ -10,9 +10,10 @@ use borrow.Author.Tests.{le-leb, lt-leb, eq-eqb, ne-eqb}
 use Rattle.rules.specs.Card.{firstCharge, isCharge}
 use Rattle.rules.specs.Amount.{baseAmount}
 use Rattle.rules.specs.Table.{mostActions, parentOf, hasWritten, hasCard, pendingSum}
+use Rattle.rules.specs.Walk.{Climbs}
 use Rattle.rules.specs.Nearest.{nearest, movesUp, readSum}
 use Rattle.rules.specs.Cause.{commitSum}
-use Rattle.rules.proofs.Laws.Walking.{walk-store, walk-step, Climbs, climb-holds, movesToStore, nearest-store, nearest-step}
+use Rattle.rules.proofs.Laws.Walking.{walk-store, walk-step, climb-holds, movesToStore, nearest-store, nearest-step}
 use Rattle.rules.proofs.Laws.Versions.{moves-to-base}
 
 -- ---- what an action sees of charge account k

@@ -1,9 +1,9 @@
 -- Tests of the members of a list: what holds of a list that was mapped, lengthened or thinned out. Assumes nothing.
-use Prim.Native.Nat.{ℕ, suc, _≤_}
+use Prim.Native.Nat.{ℕ, suc, _≤_, _<_}
 use native.Mathlib.Omega.{arith}
 use mathlib.Core.Path.{_≡_, refl, ap}
 use mathlib.Core.Logic.{⊎-elim}
-use mathlib.Core.Bool.{Bool, true, false, cond, _&&_, _||_, false≢true}
+use mathlib.Core.Bool.{Bool, true, false, not, cond, _&&_, _||_, false≢true}
 use mathlib.Core.List.{List, [], _∷_, _++_, map}
 use lib.Dec.{eqb}
 use lib.ListN.{length}
@@ -103,6 +103,19 @@ module _ {A : Type 0} where
       chosen : (b : Bool) → length (filter f xs) ≤ length xs → length (cond b (x ∷ filter f xs) (filter f xs)) ≤ suc (length xs)
       chosen true most = omega arith
       chosen false most = omega arith
+
+  -- .. and fewer where one isn't kept
+  pub filter-shorter : (f : A → Bool) (xs : List A) → any (λ x. not (f x)) xs ≡ true → length (filter f xs) < length xs
+  unfolding any filter
+  filter-shorter f [] out = absurd (false≢true out)
+  filter-shorter f (x ∷ xs) out = chosen (f x) (length-filter f xs) (filter-shorter f xs) out
+    where
+      chosen :
+          (b : Bool) → length (filter f xs) ≤ length xs →
+          (any (λ y. not (f y)) xs ≡ true → length (filter f xs) < length xs) →
+          (not b || any (λ y. not (f y)) xs) ≡ true → length (cond b (x ∷ filter f xs) (filter f xs)) < suc (length xs)
+      chosen true most fewer later = omega (arith, fewer later)
+      chosen false most fewer later = omega arith
 
 -- ---- numbers
 

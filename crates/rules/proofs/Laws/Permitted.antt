@@ -1,9 +1,9 @@
 -- An event that isn't refused, kind by kind: what holds of the action that it names. Assumes nothing.
-use Prim.Native.Nat.{ℕ, _≤_, _<_}
+use Prim.Native.Nat.{ℕ, _+_, _≤_, _<_}
 use native.Mathlib.Omega.{arith}
 use mathlib.Core.Path.{_≡_, refl}
 use mathlib.Core.Logic.{_≢_}
-use mathlib.Core.Bool.{Bool, true, false, not, _&&_, _||_}
+use mathlib.Core.Bool.{true, false, _||_}
 use mathlib.Core.List.{List, []}
 use lib.Dec.{eqb}
 use lib.IntN.{_+ℤ_}
@@ -12,15 +12,16 @@ use Rattle.rules.specs.declared.Answer.the-variants.{Refused}
 use Rattle.rules.specs.declared.Found.{Found}
 use Rattle.rules.specs.declared.Found.the-variants.{Nothing}
 use Rattle.rules.specs.Card.{accountCount, firstCharge, chargeCount, isCharge, chargeAccounts, IsCharge, IsCard}
-use Rattle.rules.specs.Amount.{isAmount, isAddable, amountIn}
-use Rattle.rules.specs.Table.{mostActions, highest, parentOf, kindOf, hasWritten, pendingSum, ownAdds, isLive, isLiveChildOf, hasLiveChild, actions}
+use Rattle.rules.specs.Amount.{isAmount, amountIn}
+use Rattle.rules.specs.Table.{highest, parentOf, kindOf, hasWritten, pendingSum, ownAdds, keptAfter, counter, lastTime, isLive, isLiveChildOf, hasLiveChild, actions}
 use Rattle.rules.specs.Sound.{IsGiven}
+use Rattle.rules.specs.Free.{nextNumber}
 use Rattle.rules.specs.Queue.{queueLength, isQueued, isQueuedReady, isWaiting}
 use Rattle.rules.specs.Event.{Event, startCode, readCode, writeCode, commitCode, abortCode, addCode, enterCode, judgeCode, isStart, isRead, isWrite, isCommit, isAdd, isEnter, isJudge}
 use Rattle.rules.specs.Ledger.{Ledger}
 use Rattle.rules.specs.Nearest.{readSum}
 use Rattle.rules.specs.Clash.{firstClash}
-use Rattle.rules.specs.Cause.{commitSum, isCommitOutside, isReadOutside, inRead, inAdd, inCommit, sumsOf, areOutside}
+use Rattle.rules.specs.Cause.{commitSum, isCopyOutside, isKeptOutside, isCommitOutside, isReadOutside, inRead, inAdd, inCommit, sumsOf, areOutside}
 use Rattle.rules.specs.Step.{start, read, write, judged, commit, add, enter, judgeLeft, judge, abortLeft, abort, step, leaversAt}
 use Rattle.rules.proofs.Laws.Tests.{and-both, not-both, or-inl, or-inr, not-fails, and-fails, or-fails, leb-holds, leb-fails}
 use Rattle.rules.proofs.Laws.Ranges.{not-any-at}
@@ -31,7 +32,7 @@ use Rattle.rules.proofs.Laws.EventCases.{causeIn, AllowedIn, OfStep, st
 pub record Startable (w : List ℕ) (p : ℕ) : Type 0 where
   pub known : p ≤ highest w
   pub alive : 1 ≤ p → isLive w p ≡ true
-  pub room : highest w < mostActions
+  pub room : nextNumber w ≢ 0
   pub unqueued : isWaiting w p ≡ false
 
 -- n may read account k, and write it or add to it: it is live, has no live child and isn't queued
@@ -42,12 +43,13 @@ pub record Touchable (w : List ℕ) (n k : ℕ) : Type 0 where
   pub unqueued : isWaiting w n ≡ false
   pub account : k < accountCount
 
--- n may commit, fail or enter its queue: it is live, has no live child and isn't queued
+-- n may commit, fail or enter its queue: it is live, has no live child and isn't queued, and there is an end time left for it
 pub record Committable (w : List ℕ) (n : ℕ) : Type 0 where
   pub own : IsGiven w n
   pub alive : isLive w n ≡ true
   pub childless : hasLiveChild w n ≡ false
   pub unqueued : isWaiting w n ≡ false
+  pub timeLeft : counter w (kindOf w n) + queueLength w (kindOf w n) < lastTime
 
 -- n's verdict may be revealed: it waits in its queue and isn't ready
 pub record Judgeable (w : List ℕ) (n : ℕ) : Type 0 where
@@ -55,9 +57,8 @@ pub record Judgeable (w : List ℕ) (n : ℕ) : Type 0 where
   pub queued : isQueued w (kindOf w n) n ≡ true
   pub unready : isQueuedReady w (kindOf w n) n ≡ false
 
--- n's add of this card's amount to charge account k adds no more than an event may, and the sums that it leaves are amounts
+-- the sums that n's add of this card's amount to charge account k leaves are amounts
 pub record AddFits (w : List ℕ) (n k : ℕ) (card : List ℕ) : Type 0 where
-  pub addable : isAddable (amountIn card) ≡ true
   pub pendingFits : isAmount (pendingSum w n k +ℤ amountIn card) ≡ true
   pub ownAddsFit : isAmount (ownAdds w n k +ℤ amountIn card) ≡ true
 
@@ -85,7 +86,7 @@ module _ {s : Ledger} {e : Event} (a : AllowedIn s e) where
   pub named-given : isStart e ≡ false → IsGiven (s .table) (e .number)
   named-given other = (a .early .named other, a .early .numberKnown)
 
-  named-alive : isStart e ≡ false → isLive (s .table) (e .number) ≡ true
+  pub named-alive : isStart e ≡ false → isLive (s .table) (e .number) ≡ true
   named-alive other = a .early .alive (a .early .named other)
 
   -- an event with this code, which asks that no child is live and that the action doesn't wait
@@ -93,25 +94,27 @@ module _ {s : Ledger} {e : Event} (a : AllowedIn s e) where
       (code : ℕ) (is : eqb (e .code) code ≡ true) (other : eqb code startCode ≡ false)
       (waits : (eqb code judgeCode || eqb code abortCode) ≡ false)
       (asks : (isRead e || isWrite e || isCommit e || isAdd e || isEnter e) ≡ true) where
-    free-permitted : Committable (s .table) (e .number)
-    free-permitted =
+    -- a commit or an enter
+    end-permitted : (isCommit e || isEnter e) ≡ true → Committable (s .table) (e .number)
+    end-permitted ends =
         let no = no-start e code is other in
         record {
           own = named-given no;
           alive = named-alive no;
           childless = a .early .childless asks;
           unqueued = a .early .unqueued (no-judge-or-abort e code is waits);
+          timeLeft = a .early .timeLeft ends;
         }
 
     -- a read, a write or an add
     touch-permitted : (isRead e || isWrite e || isAdd e) ≡ true → Touchable (s .table) (e .number) (e .account)
     touch-permitted used =
-        let free = free-permitted in
+        let no = no-start e code is other in
         record {
-          own = free .own;
-          alive = free .alive;
-          childless = free .childless;
-          unqueued = free .unqueued;
+          own = named-given no;
+          alive = named-alive no;
+          childless = a .early .childless asks;
+          unqueued = a .early .unqueued (no-judge-or-abort e code is waits);
           account = a .early .accountKnown used;
         }
 
@@ -129,7 +132,7 @@ module _ {s : Ledger} {e : Event} (a : AllowedIn s e) where
   unfolding areOutside
   add-fits is =
       let (pending, own) = or-fails _ _ .0 (rw (sums-of-add e is) at (a .sumsFit)) in
-      record { addable = a .early .addable is; pendingFits = not-fails _ .0 pending; ownAddsFit = not-fails _ .0 own }
+      record { pendingFits = not-fails _ .0 pending; ownAddsFit = not-fails _ .0 own }
 
   commit-fits : isCommit e ≡ true → isCommitOutside (s .table) (s .base) (e .number) (firstClash (s .table) (e .number)) ≡ false
   unfolding areOutside
@@ -176,14 +179,18 @@ module _ (s : Ledger) (e : Event) (P : OfStep) where
       (a .early .cardFits (or-inl (isAdd e) is)) (write-below a is))
       (λ is.
       judges
-      (free-permitted a commitCode is refl refl (or-inl (isEnter e) (or-inl (isAdd e) (or-inr (isRead e || isWrite e) is))))
+      (end-permitted a commitCode is refl refl
+      (or-inl (isEnter e) (or-inl (isAdd e) (or-inr (isRead e || isWrite e) is))) (or-inl (isEnter e) is))
       (a .early .queueEmpty is) (firstClash (s .table) (e .number)) refl (commit-fits a is))
       (λ is.
       adds
       (touch-permitted a addCode is refl refl
       (or-inl (isEnter e) (or-inr (isRead e || isWrite e || isCommit e) is)) (or-inr (isRead e || isWrite e) is))
       (a .early .cardFits (or-inr (isWrite e) is)) (add-charge a is) (add-fits a is))
-      (λ is. enters (free-permitted a enterCode is refl refl (or-inr (isRead e || isWrite e || isCommit e || isAdd e) is)))
+      (λ is.
+      enters
+      (end-permitted a enterCode is refl refl
+      (or-inr (isRead e || isWrite e || isCommit e || isAdd e) is) (or-inr (isCommit e) is)))
       (λ is. reveals (judge-permitted a is))
       (λ _. aborts))
 
@@ -194,15 +201,27 @@ module _ (w base : List ℕ) (n : ℕ) where
   unfolding isReadOutside
   read-sum-fits k fits charge = not-fails _ .0 (and-fails (isCharge k) _ .0 fits charge)
 
-  -- of a commit that passes: each charge account in the write set
+  -- of a commit that passes: neither sum of a charge account is outside
+  sums-inside :
+      isCommitOutside w base n Nothing ≡ false →
+      (k : ℕ) → IsCharge k → (isCopyOutside w base n k ≡ false) × (isKeptOutside w n k ≡ false)
+  unfolding isCommitOutside chargeAccounts
+  sums-inside fits k charge =
+      or-fails (isCopyOutside w base n k) (isKeptOutside w n k) .0
+      (not-any-at (λ j. isCopyOutside w base n j || isKeptOutside w n j) firstCharge chargeCount k fits (charge-within charge))
+
+  -- what is copied of one in the write set
   pub commit-sum-fits :
       isCommitOutside w base n Nothing ≡ false →
       (k : ℕ) → IsCharge k → hasWritten w n k ≡ true → isAmount (commitSum w base n k) ≡ true
-  unfolding isCommitOutside chargeAccounts
   commit-sum-fits fits k charge written =
-      let outside : ℕ → Bool = λ j. hasWritten w n j && not (isAmount (commitSum w base n j)) in
-      let here = not-any-at outside firstCharge chargeCount k fits (charge-within charge) in
-      not-fails _ .0 (and-fails (hasWritten w n k) _ .0 here written)
+      not-fails _ .0 (and-fails (hasWritten w n k) _ .0 (sums-inside fits k charge .0) written)
+
+  -- what is kept, of any
+  pub kept-sum-fits :
+      isCommitOutside w base n Nothing ≡ false →
+      (k : ℕ) → IsCharge k → isAmount (keptAfter w n (parentOf w n) k) ≡ true
+  kept-sum-fits fits k charge = not-fails _ .0 (sums-inside fits k charge .1)
 
 -- ---- an action without a live child
 

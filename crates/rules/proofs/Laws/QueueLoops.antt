@@ -17,7 +17,7 @@ use Rattle.rules.specs.Walk.{isAbortedBy}
 use Rattle.rules.specs.Queue.{numberField, verdictField, readyField, queueLength, withQueueLength, Entry, entryAt, withEntry, isOf, queue, isQueued, withEntries}
 use Rattle.rules.proofs.Laws.Ranges.{any-at}
 use Rattle.rules.proofs.Laws.Lists.{any-map}
-use Rattle.rules.proofs.Laws.Walking.{Climbs, atOrBelow-agree}
+use Rattle.rules.proofs.Laws.Walking.{atOrBelow-agree}
 use Rattle.rules.proofs.Laws.Queue.{OffEntry}
 
 -- ---- what stands there put there again
@@ -60,7 +60,7 @@ module _ (w : List ℕ) (h : ℕ) where
 -- a table that differs in words of a queue alone
 pub abortedBy-kept :
     (w v : List ℕ) (h : ℕ) → IsKind h → ((m g : ℕ) → g < width → OffEntry h g → word v m g ≡ word w m g) →
-    (n m : ℕ) → Climbs w m → isAbortedBy v n m ≡ isAbortedBy w n m
-abortedBy-kept w v h known off n m up =
+    (n m : ℕ) → isAbortedBy v n m ≡ isAbortedBy w n m
+abortedBy-kept w v h known off n m =
     ap₂ _&&_ (ap (λ x. eqb x live) (off m stateField (omega arith) (inl (omega arith))))
-    (atOrBelow-agree w v (λ x. off x parentField (omega arith) (inl (omega arith))) n m up)
+    (atOrBelow-agree w v (λ x. off x parentField (omega arith) (inl (omega arith))) n m)

@@ -1,12 +1,12 @@
 -- What is asked of each number of a run, as facts about the numbers from a on, below a + n. Assumes nothing.
 use Prim.Native.Nat.{ℕ, zero, suc, _+_, _-_, _≤_, _<_}
-use native.Mathlib.Nat.{zero-add, add-suc, suc-add, add-zero}
+use native.Mathlib.Nat.{add-suc, suc-add, add-zero}
 use native.Mathlib.Omega.{arith}
 use native.Mathlib.Numerals.{add-one}
 use native.Mathlib.Decide.{ℕ-discrete}
 use mathlib.Core.Path.{_≡_, refl, sym, ap, ap₂, _∙_}
 use mathlib.Core.Logic.{_⊎_, inl, inr, ⊎-elim, _≢_}
-use mathlib.Core.Bool.{Bool, true, false, cond, _||_, false≢true}
+use mathlib.Core.Bool.{Bool, true, false, cond, false≢true, _||_}
 use mathlib.Core.List.{List, [], _∷_, map, List·Memᴰ, List·Memᴰ·head, List·Memᴰ·tail, List·Memᴰ·not-nil, List·Memᴰ·cases-cons}
 use lib.ListN.{length}
 use Rattle.rules.specs.Range.{upFrom, downTo, any, all, count, filter, fold}
@@ -135,26 +135,6 @@ count-at-most f a (suc n) = one-more (f a) (count-at-most f (suc a) n)
     one-more true h = omega arith
     one-more false h = omega arith
 
--- f and g differ at x alone, where g holds and f doesn't: g counts one more
-pub count-one-more :
-    (f g : ℕ → Bool) (a n x : ℕ) → Within a n x → f x ≡ false → g x ≡ true → ((y : ℕ) → Within a n y → y ≢ x → f y ≡ g y) →
-    count g (upFrom a n) ≡ suc (count f (upFrom a n))
-unfolding count upFrom
-count-one-more f g a zero x h p q e = absurd (omega (arith, add-zero a))
-count-one-more f g a (suc n) x h p q e =
-    ⊎-elim
-    (λ s.
-    rw (rw s at p, rw s at q)
-    (ap suc (sym (count-agree f g (suc a) n (λ y r. e y (rest-within a n y r) (λ z. omega (arith, r .0)))))))
-    (λ r.
-    rw (sym (e a (first-within a n) (λ z. omega (arith, r .0))))
-    (rw (count-one-more f g (suc a) n x r p q (λ y s. e y (rest-within a n y s))) (cond-suc (f a) _)))
-    (first-or-rest a n x h)
-  where
-    cond-suc : (b : Bool) (m : ℕ) → cond b (suc (suc m)) (suc m) ≡ suc (cond b (suc m) m)
-    cond-suc true m = refl
-    cond-suc false m = refl
-
 -- g holds only where f does: it counts no more
 count-no-more :
     (f g : ℕ → Bool) (a n : ℕ) → ((y : ℕ) → Within a n y → g y ≡ true → f y ≡ true) → count g (upFrom a n) ≤ count f (upFrom a n)
@@ -196,16 +176,6 @@ count-some f (x ∷ xs) p =
     cond-holds (λ c. 1 ≤ c) (f x)
     (λ q. omega arith)
     (λ q. count-some f xs (rw q at p))
-
-pub count-snoc : (f : ℕ → Bool) (a n : ℕ) → count f (upFrom a (suc n)) ≡ count f (upFrom a n) + count f ((a + n) ∷ [])
-unfolding count upFrom
-count-snoc f a zero = rw (add-zero, zero-add)
-count-snoc f a (suc n) =
-    rw (count-snoc f (suc a) n, add-suc a n, ← suc-add a n) (cond-add (f a) _ _)
-  where
-    cond-add : (b : Bool) (m k : ℕ) → cond b (suc (m + k)) (m + k) ≡ cond b (suc m) m + k
-    cond-add true m k = sym (suc-add m k)
-    cond-add false m k = refl
 
 -- ---- fold: a change made once for each of them
 

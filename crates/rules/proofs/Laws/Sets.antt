@@ -1,4 +1,5 @@
--- Both sets of an action given anew, its pending sums with them, and its own adds cleared: what stands in the table then.
+-- Both sets of an action given anew, its pending sums with them, and its own adds and kept sums cleared: what stands in the
+-- table then.
 -- Assumes nothing.
 use Prim.Native.Nat.{ℕ, _≤_, _<_}
 use native.Mathlib.Omega.{arith}
@@ -8,7 +9,7 @@ use mathlib.Core.List.{List}
 use lib.ListN.{length}
 use Rattle.rules.specs.Range.{upFrom}
 use Rattle.rules.specs.Card.{accountCount, accounts, firstCharge, chargeCount, IsCharge, chargeAccounts}
-use Rattle.rules.specs.Table.{entryFields, width, tableLength, word, withFields, readFields, readField, readEntry, subTimeFields, subTimeField, subTime, writeFields, writeField, writeEntry, pendingField, pendingWord, ownAddsField, ownAddsWord, withoutAdds, withReads, withBothSets, withSets, mostActions}
+use Rattle.rules.specs.Table.{entryFields, width, tableLength, word, withFields, readFields, readField, readEntry, subTimeFields, subTimeField, subTime, writeFields, writeField, writeEntry, pendingField, pendingWord, ownAddsField, ownAddsWord, withoutAdds, keptField, keptWord, withoutKept, withReads, withBothSets, withSets, mostActions}
 use Rattle.rules.proofs.Laws.Ranges.{Within}
 use Rattle.rules.proofs.Laws.Fields.{withFields-length, withFields-other-row, withFields-other-field, withFields-same}
 
@@ -35,12 +36,14 @@ module _ (w : List ℕ) (n : ℕ) (reads times : ℕ → ℕ) where
 
   -- a field of no read
   pub withReads-other-field :
-      (g : ℕ) → g < subTimeFields → (g < readFields) ⊎ (writeFields ≤ g) → word (withReads w n reads times) n g ≡ word w n g
+      (g : ℕ) → (g < readFields) ⊎ (writeFields ≤ g) → (g < subTimeFields) ⊎ (keptField firstCharge ≤ g) →
+      word (withReads w n reads times) n g ≡ word w n g
   unfolding withReads accounts
-  withReads-other-field g front apart =
-      withFields-other-field _ n subTimeField 0 accountCount _ g (λ k h z. omega arith)
+  withReads-other-field g entry time =
+      withFields-other-field _ n subTimeField 0 accountCount _ g
+      (λ k h z. ⊎-elim (λ before. omega arith) (λ behind. omega arith) time)
       ∙ withFields-other-field w n readField 0 accountCount _ g
-      (λ k h z. ⊎-elim (λ before. omega arith) (λ behind. omega arith) apart)
+      (λ k h z. ⊎-elim (λ before. omega arith) (λ behind. omega arith) entry)
 
   module _ (long : length w ≡ tableLength) (few : n ≤ mostActions) where
     with-entries : length (withFields w n readField (upFrom 0 accountCount) reads) ≡ tableLength
@@ -62,7 +65,8 @@ module _ (w : List ℕ) (n : ℕ) (reads times : ℕ → ℕ) where
 
 -- a field of neither
 abbrev pub IsNoSet : ℕ → Type 0
-IsNoSet g = (g < subTimeFields) × ((g < readFields) ⊎ (writeField accountCount ≤ g))
+IsNoSet g =
+    ((g < readFields) ⊎ (writeField accountCount ≤ g)) × ((g < subTimeFields) ⊎ (keptField firstCharge ≤ g))
 
 module _ (w : List ℕ) (n : ℕ) (reads times writes : ℕ → ℕ) where
   abbrev both : List ℕ
@@ -79,13 +83,13 @@ module _ (w : List ℕ) (n : ℕ) (reads times writes : ℕ → ℕ) where
       withFields-other-row _ n writeField 0 accountCount _ m g (λ k h. omega arith) hg ne
       ∙ withReads-other-row w n reads times m g hg ne
 
-  -- parent, state and end time, and what stands between the sets and the subaction times
+  -- parent, state and end time, what stands between the sets and the subaction times, and the kept sums
   pub withBothSets-other-field : (g : ℕ) → IsNoSet g → word both n g ≡ word w n g
   unfolding withBothSets accounts
-  withBothSets-other-field g (front, apart) =
+  withBothSets-other-field g (entry, time) =
       withFields-other-field _ n writeField 0 accountCount _ g
-      (λ k h z. ⊎-elim (λ before. omega arith) (λ behind. omega arith) apart)
-      ∙ withReads-other-field w n reads times g front (⊎-map (λ before. before) (λ behind. omega arith) apart)
+      (λ k h z. ⊎-elim (λ before. omega arith) (λ behind. omega arith) entry)
+      ∙ withReads-other-field w n reads times g (⊎-map (λ before. before) (λ behind. omega arith) entry) time
 
   module _ (long : length w ≡ tableLength) (few : n ≤ mostActions) where
     pub withBothSets-read : (k : ℕ) → k < accountCount → readEntry both n k ≡ reads k
@@ -128,14 +132,15 @@ module _ (w : List ℕ) (n : ℕ) (reads times writes sums : ℕ → ℕ) where
   unfolding withSets chargeAccounts
   withSets-other-field g hg =
       withFields-other-field _ n pendingField firstCharge chargeCount _ g (λ k h z. omega arith)
-      ∙ withBothSets-other-field w n reads times writes g (omega arith, inl hg)
+      ∙ withBothSets-other-field w n reads times writes g (inl hg, inl (omega arith))
 
-  -- what stands behind them and before the subaction times: own adds, and the queues' words
-  pub withSets-behind : (g : ℕ) → ownAddsField firstCharge ≤ g → g < subTimeFields → word whole n g ≡ word w n g
+  -- what stands behind them: own adds and the queues' words before the subaction times, and the kept sums
+  pub withSets-behind :
+      (g : ℕ) → ownAddsField firstCharge ≤ g → (g < subTimeFields) ⊎ (keptField firstCharge ≤ g) → word whole n g ≡ word w n g
   unfolding withSets chargeAccounts
-  withSets-behind g far near =
+  withSets-behind g far time =
       withFields-other-field _ n pendingField firstCharge chargeCount _ g (λ j h z. omega arith)
-      ∙ withBothSets-other-field w n reads times writes g (near, inr (omega arith))
+      ∙ withBothSets-other-field w n reads times writes g (inr (omega arith), time)
 
   module _ (long : length w ≡ tableLength) (few : n ≤ mostActions) where
     pub withSets-read : (k : ℕ) → k < accountCount → readEntry whole n k ≡ reads k
@@ -181,7 +186,7 @@ module _ (w : List ℕ) (n : ℕ) where
   unfolding withoutAdds chargeAccounts
   withoutAdds-other-field g hg = withFields-other-field w n ownAddsField firstCharge chargeCount _ g (λ k h z. omega arith)
 
-  -- what stands behind them: the queues' words and the subaction times
+  -- what stands behind them: the queues' words, the subaction times and the kept sums
   pub withoutAdds-behind : (g : ℕ) → entryFields ≤ g → word (withoutAdds w n) n g ≡ word w n g
   unfolding withoutAdds chargeAccounts
   withoutAdds-behind g far = withFields-other-field w n ownAddsField firstCharge chargeCount _ g (λ k h z. omega arith)
@@ -191,4 +196,28 @@ module _ (w : List ℕ) (n : ℕ) where
   unfolding withoutAdds chargeAccounts
   withoutAdds-same long few k charge =
       withFields-same w n ownAddsField firstCharge chargeCount _ long few k
+      (charge-within charge) (omega arith) (λ x h ne z. ne (omega arith))
+
+-- ---- kept sums cleared
+
+module _ (w : List ℕ) (n : ℕ) where
+  pub withoutKept-length : length (withoutKept w n) ≡ length w
+  unfolding withoutKept chargeAccounts
+  withoutKept-length = withFields-length w n keptField firstCharge chargeCount _
+
+  -- the rows of others
+  pub withoutKept-other-row : (m g : ℕ) → g < width → m ≢ n → word (withoutKept w n) m g ≡ word w m g
+  unfolding withoutKept chargeAccounts
+  withoutKept-other-row m g hg ne = withFields-other-row w n keptField firstCharge chargeCount _ m g (λ k h. omega arith) hg ne
+
+  -- what stands before them
+  pub withoutKept-before : (g : ℕ) → g < keptField firstCharge → word (withoutKept w n) n g ≡ word w n g
+  unfolding withoutKept chargeAccounts
+  withoutKept-before g near = withFields-other-field w n keptField firstCharge chargeCount _ g (λ k h z. omega arith)
+
+  pub withoutKept-same :
+      length w ≡ tableLength → n ≤ mostActions → (k : ℕ) → IsCharge k → keptWord (withoutKept w n) n k ≡ 0
+  unfolding withoutKept chargeAccounts
+  withoutKept-same long few k charge =
+      withFields-same w n keptField firstCharge chargeCount _ long few k
       (charge-within charge) (omega arith) (λ x h ne z. ne (omega arith))

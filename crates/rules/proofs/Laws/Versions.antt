@@ -7,11 +7,12 @@ use mathlib.Core.Logic.{_≢_}
 use mathlib.Core.Bool.{Bool, true, false, cond, true≢false}
 use mathlib.Core.List.{List}
 use Rattle.rules.specs.declared.Version.{Version}
-use Rattle.rules.specs.Table.{mostActions, highest, parentOf, hasCard}
+use Rattle.rules.specs.Table.{mostActions, parentOf, hasCard}
+use Rattle.rules.specs.Walk.{Climbs}
 use Rattle.rules.specs.Nearest.{nearest, movesUp, version, climbed, IsNearest}
-use Rattle.rules.specs.Sound.{Sound}
+use Rattle.rules.specs.Sound.{StoreOrLive, Sound}
 use Rattle.rules.proofs.Laws.Tests.{cond-holds}
-use Rattle.rules.proofs.Laws.Walking.{walk-store, walk-step, walk-counts, Climbs, climb-holds, sound-climbs, movesToStore, movesToStore-store, movesToStore-step, nearest-store, nearest-step}
+use Rattle.rules.proofs.Laws.Walking.{walk-store, walk-step, walk-counts, climb-holds, sound-climbs, movesToStore, movesToStore-store, movesToStore-step, nearest-store, nearest-step}
 
 module _ (w : List ℕ) (k : ℕ) where
   pub movesUp-store : movesUp w 0 k ≡ 0
@@ -79,12 +80,12 @@ module _ {w : List ℕ} {k : ℕ} where
       fewer zero h = (ne, without)
       fewer (suc m) h = near .fewer m (omega arith)
 
--- RULES 3.1: on a sound table, seen from the store or any action, the version is the nearest by its meaning
-pub version-nearest : (w : List ℕ) → Sound w → (n k : ℕ) → n ≤ highest w → IsNearest w n k (version w n k)
-version-nearest w s n k known =
+-- RULES 3.1: on a sound table, seen from the store or any live action, the version is the nearest by its meaning
+pub version-nearest : (w : List ℕ) → Sound w → (n k : ℕ) → StoreOrLive w n → IsNearest w n k (version w n k)
+version-nearest w s n k from =
     version-holds w k (λ m v. IsNearest w m k v) store-nearest own-nearest
     (λ m ne _. above-nearest m ne)
-    n (sound-climbs s n known)
+    n (sound-climbs s n from)
 
 fewer-not-nearest : {w : List ℕ} {n k : ℕ} {v u : Version} → IsNearest w n k v → IsNearest w n k u → u .moves < v .moves → ⊥
 fewer-not-nearest {w} {n} {k} {v} {u} a b less =

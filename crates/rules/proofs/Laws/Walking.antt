@@ -1,19 +1,20 @@
 -- Going up the parents. A bound on the moves that leads to the store makes no difference; so the nearest version, the moves up
 -- and what is at or below an action follow from the action and its parent. Assumes nothing.
-use Prim.Native.Nat.{ℕ, zero, suc, _≤_, _<_}
+use Prim.Native.Nat.{ℕ, zero, suc, _≤_}
 use native.Mathlib.Omega.{arith}
-use mathlib.Core.Path.{_≡_, refl, sym, ap, _∙_}
-use mathlib.Core.Logic.{_≢_}
+use native.Mathlib.Decide.{ℕ-discrete}
+use mathlib.Core.Path.{_≡_, refl, sym, ap, _∙_, fun-ext}
+use mathlib.Core.Logic.{_≢_, ⊎-elim}
 use mathlib.Core.Bool.{true, false, cond, _||_}
 use mathlib.Core.List.{List}
 use borrow.Author.Tests.{eqb-true, eqb-false, eq-eqb, ne-eqb}
 use lib.Dec.{eqb}
-use Rattle.rules.specs.Table.{mostActions, highest, parentOf, hasCard}
-use Rattle.rules.specs.Walk.{walkUp, isAtOrBelow}
+use Rattle.rules.specs.Table.{mostActions, highest, parentOf, hasCard, isLive}
+use Rattle.rules.specs.Walk.{walkUp, climbs, Climbs, isAtOrBelow}
 use Rattle.rules.specs.Nearest.{nearest}
-use Rattle.rules.specs.Sound.{IsGiven, Sound}
+use Rattle.rules.specs.Sound.{IsGiven, StoreOrLive, Sound}
 use Rattle.rules.proofs.Laws.Tests.{or-inl, or-neither, cond-holds}
-use Rattle.rules.proofs.Laws.Climbing.{climbs, climbs-nowhere, climbs-parent, climbs-more, climbs-above, falling-climbs}
+use Rattle.rules.proofs.Laws.Climbing.{climbs-nowhere, climbs-store, climbs-parent, climbs-more, climbs-above}
 
 -- ---- any walk
 
@@ -23,7 +24,7 @@ module _ {A : Type 0} (parent : ℕ → ℕ) (top : A) (here : ℕ → A → A) 
   walk-store zero = refl
   walk-store (suc moves) = refl
 
-  walk-move : (moves n : ℕ) → n ≢ 0 → walkUp parent top here (suc moves) n ≡ here n (walkUp parent top here moves (parent n))
+  pub walk-move : (moves n : ℕ) → n ≢ 0 → walkUp parent top here (suc moves) n ≡ here n (walkUp parent top here moves (parent n))
   unfolding walkUp
   walk-move moves n action = rw (ne-eqb n 0 action)
 
@@ -93,10 +94,6 @@ module _ {A : Type 0} (parent : ℕ → ℕ) (top : A) (here : ℕ → A → A) 
 
 -- ---- in a table
 
--- from n the store is reached, in as many moves as there can be actions
-abbrev pub Climbs : List ℕ → ℕ → Type 0
-Climbs w n = climbs (parentOf w) mostActions n ≡ true
-
 -- What holds of the store, and of an action where it holds of its parent, holds wherever the store is reached from.
 pub climb-holds :
     (w : List ℕ) (P : ℕ → Type 0) → P 0 → ((m : ℕ) → m ≢ 0 → Climbs w m → P (parentOf w m) → P m) → (n : ℕ) → Climbs w n → P n
@@ -106,19 +103,21 @@ climb-holds w P store action n up =
     (λ m ne _ above from. action m ne from (above (climbs-above (parentOf w) mostActions m ne from)))
     mostActions n up up
 
--- each started action has its parent below it
-abbrev pub Falls : List ℕ → Type 0
-Falls w = (m : ℕ) → IsGiven w m → parentOf w m < m
+-- ---- from the store and from live actions
 
--- a parent is the store or a started action
-pub parent-known : {w : List ℕ} → Sound w → (n : ℕ) → IsGiven w n → parentOf w n ≤ highest w
-parent-known s n h = omega (arith, s .below n h)
+-- a live action's parent is the store or live too
+pub parent-store-or-live : {w : List ℕ} → Sound w → (n : ℕ) → IsGiven w n → isLive w n ≡ true → StoreOrLive w (parentOf w n)
+parent-store-or-live s n begun alive = (
+  s .known n begun,
+  λ action. ⊎-elim (λ store. absurd (omega arith)) (λ above. above) (s .alive n begun alive),
+)
 
-pub given-climbs : (w : List ℕ) → highest w ≤ mostActions → Falls w → (n : ℕ) → n ≤ highest w → Climbs w n
-given-climbs w few falls n known = falling-climbs (parentOf w) (highest w) falls mostActions n known (omega arith)
-
-pub sound-climbs : {w : List ℕ} → Sound w → (n : ℕ) → n ≤ highest w → Climbs w n
-sound-climbs {w} s = given-climbs w (s .few) (s .below)
+pub sound-climbs : {w : List ℕ} → Sound w → (n : ℕ) → StoreOrLive w n → Climbs w n
+sound-climbs {w} s n from = by-number (ℕ-discrete n 0)
+  where
+    by-number : Dec (n ≡ 0) → Climbs w n
+    by-number (yes store) = rw store (climbs-store (parentOf w) mostActions)
+    by-number (no action) = s .climb n (omega arith, from .0) (from .1 (omega arith))
 
 -- ---- the moves up to the store: 0 of the store itself, 1 of a topaction, and so on
 
@@ -133,6 +132,11 @@ pub movesToStore-step : (w : List ℕ) (n : ℕ) → n ≢ 0 → Climbs w n → 
 unfolding movesToStore
 movesToStore-step w n = walk-step _ _ _ mostActions n
 
+-- so a live action is not its own parent
+pub live-no-own-parent : {w : List ℕ} → Sound w → (n : ℕ) → IsGiven w n → isLive w n ≡ true → parentOf w n ≢ n
+live-no-own-parent {w} s n begun alive own =
+    omega (arith, movesToStore-step w n (λ z. omega arith) (s .climb n begun alive), ap (movesToStore w) own)
+
 -- ---- the nearest version
 
 pub nearest-store : (w : List ℕ) (k : ℕ) → nearest w 0 k ≡ 0
@@ -144,15 +148,15 @@ module _ (w : List ℕ) (n k : ℕ) where
   unfolding nearest
   nearest-step = walk-step _ _ _ mostActions n
 
--- it is the store, or an action that has started
-pub nearest-given : (w : List ℕ) → Sound w → (n k : ℕ) → n ≤ highest w → nearest w n k ≤ highest w
+-- it is the store, or an action of the table
+pub nearest-given : (w : List ℕ) → Sound w → (n k : ℕ) → StoreOrLive w n → nearest w n k ≤ highest w
 unfolding nearest
-nearest-given w s n k known =
+nearest-given w s n k from =
     walk-holds _ _ _ (λ m near. m ≤ highest w → near ≤ highest w)
     (λ h. h)
     (λ m ne near above h.
-    cond-holds (λ x. x ≤ highest w) (hasCard w m k) (λ e. h) (λ e. above (parent-known s m (omega arith))))
-    mostActions n (sound-climbs s n known) known
+    cond-holds (λ x. x ≤ highest w) (hasCard w m k) (λ e. h) (λ e. above (s .known m (omega arith))))
+    mostActions n (sound-climbs s n from) (from .0)
 
 -- ---- at or below an action
 
@@ -176,8 +180,6 @@ module _ (w : List ℕ) where
   -- another table with the same parents
   pub atOrBelow-agree :
       (v : List ℕ) → ((m : ℕ) → parentOf v m ≡ parentOf w m) →
-      (a m : ℕ) → Climbs w m → isAtOrBelow v a m ≡ isAtOrBelow w a m
+      (a m : ℕ) → isAtOrBelow v a m ≡ isAtOrBelow w a m
   unfolding isAtOrBelow
-  atOrBelow-agree v parents a m up =
-      walk-agree _ _ _ _ _ (λ _. Unit {0}) (λ n _ _. tt) (λ n _ _. parents n) (λ n _ _ above. refl)
-      mostActions mostActions m tt up up
+  atOrBelow-agree v parents a m = rw (fun-ext parents) refl

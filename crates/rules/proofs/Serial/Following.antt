@@ -80,15 +80,15 @@ module _ {Vs : Values} {s s′ : AbstractState Vs} {h h′ : Lineage} (m : Moves
         reaches X ≡ isInR final (h .startOf X)
     ended-followed X l ended uncommitted =
         later .lost X (live-not-store (kept .tree) l) (λ l′. not-both l′ ended)
-        ∙ sym (uncommitted-not-inR (later .ordered) (h .startOf X) highest (later .never (h .startOf X) dropped))
+        ∙ sym (uncommitted-not-inR (later .ordered) (h .startOf X) started (later .never (h .startOf X) dropped))
       where
         dropped : Dropped s′ h′ (h .startOf X)
         dropped =
             dropped-now (kept .ordered .known X)
             (λ Y y same. not-both (rw (kept .alone Y (y .before) X l same) at (y .after)) ended) uncommitted
 
-        highest : IsStart final (h .startOf X)
-        highest = (kept .begun X l, omega (arith, dropped .known, later .extends .noFewer))
+        started : IsStart final (h .startOf X)
+        started = (kept .begun X l, omega (arith, dropped .known, later .extends .noFewer))
 
     uncommitting-followed :
         (X : ℕ) → StoreOrLive s X → (Live s X → h′ .hasCommitted (h .startOf X) ≡ false) →

@@ -16,16 +16,16 @@ use Rattle.rules.specs.Kind.{IsKind}
 use Rattle.rules.specs.Table.{hasEnd, width, live, committed, aborted, word, highestField, highest, counterField, counter, parentField, parentOf, stateField, stateOf, endField, readField, readEntry, subTimeField, subTime, writeField, pendingField, isLive, isCommitted, actions}
 use Rattle.rules.specs.Walk.{isAtOrBelow, isAbortedBy}
 use Rattle.rules.specs.Queue.{queueLengthField, isQueued}
-use Rattle.rules.specs.Sound.{isCommittedOf, hasState, IsGiven, Sound}
+use Rattle.rules.specs.Sound.{hasState, IsGiven, Sound}
 use Rattle.rules.specs.Ledger.{Ledger}
 use Rattle.rules.specs.Step.{abortTable, outOfBoth, dropped, abortLeft, abort}
 use Rattle.rules.proofs.Laws.Tests.{and-left, and-right, and-both, cond-holds}
 use Rattle.rules.proofs.Laws.Ranges.{count-some, any-at, count-agree}
 use Rattle.rules.proofs.Laws.RowPass.{pass-length, pass-other-field, pass-other-row, pass-field}
 use Rattle.rules.proofs.Laws.Queue.{SameLine}
-use Rattle.rules.proofs.Sound.TableChanges.{ReadsInTime, TableChange, sum-stays, line-stays, writes-agree}
+use Rattle.rules.proofs.Sound.TableChanges.{ReadsInTime, TableChange, bounds-stay, sum-stays, line-stays, writes-agree}
 use Rattle.rules.proofs.Sound.TakingOut.{out-sound, out-keeps, out-reach}
-use Rattle.rules.proofs.Laws.Walking.{parent-known, sound-climbs, atOrBelow-itself, notBelow-parent}
+use Rattle.rules.proofs.Laws.Walking.{atOrBelow-itself, notBelow-parent}
 
 -- ---- the table after an abort of n
 
@@ -85,8 +85,8 @@ module _ (w : List ℕ) (n : ℕ) where
         isLive (abortTable w n) (parentOf w m) ≡ true
     parent-left m h l p one =
         let out = not-true (isAtOrBelow w n m) (and-right (isLive w m) _ (sym (abort-live m h) ∙ l)) in
-        rw (abort-live (parentOf w m) (one, parent-known s m h))
-        (and-both p (ap not (notBelow-parent w n m (λ z. omega arith) (sound-climbs s m (h .1)) out)))
+        rw (abort-live (parentOf w m) (one, s .known m h))
+        (and-both p (ap not (notBelow-parent w n m (λ z. omega arith) (s .climb m h (was-live m h l)) out)))
 
     -- what becomes aborted was live, not committed
     pub abort-keeps-committed : (m : ℕ) → IsGiven w m → isCommitted (abortTable w n) m ≡ isCommitted w m
@@ -95,15 +95,6 @@ module _ (w : List ℕ) (n : ℕ) where
         (cond-holds (λ x. eqb x committed ≡ isCommitted w m) (isAbortedBy w n m)
         (λ q. rw (eqb-true (stateOf w m) live (and-left (isLive w m) _ q)))
         (λ q. refl))
-
-    count-kept :
-        (h : ℕ) → count (isCommittedOf (abortTable w n) h) (actions (abortTable w n)) ≡ count (isCommittedOf w h) (actions w)
-    unfolding actions
-    count-kept h =
-        rw highest-kept
-        (count-agree _ _ 1 (highest w)
-        (λ m r.
-        rw (abort-keeps-committed m (omega arith), abort-keeps-field m parentField (omega arith) (λ z. omega arith)) refl))
 
     end-kept : (m : ℕ) → IsGiven w m → hasEnd (abortTable w n) m ≡ hasEnd w m
     end-kept m h =
@@ -139,7 +130,7 @@ module _ (w : List ℕ) (n : ℕ) where
           long = abort-length ∙ s .long;
           sameHighest = highest-kept;
           rising = λ h known. le-of-eq (sym (counter-kept h known));
-          counted = λ h known. rw (counter-kept h known, count-kept h) (s .counted h known);
+          bounded = bounds-stay s (abortTable w n) counter-kept (λ h known. abort-line h known .sameLength);
           states = state-valid;
           parents = λ m h. abort-keeps-field m parentField (omega arith) (λ z. omega arith);
           wasLive = was-live;
@@ -163,7 +154,7 @@ module _ (w : List ℕ) (n : ℕ) where
     unfolding actions
     abort-counts-itself h l =
         count-some (isAbortedBy w n) _
-        (any-at (isAbortedBy w n) 1 (highest w) n (omega arith) (and-both l (atOrBelow-itself w n (λ z. omega arith) (sound-climbs s n (h .1)))))
+        (any-at (isAbortedBy w n) 1 (highest w) n (omega arith) (and-both l (atOrBelow-itself w n (λ z. omega arith) (s .climb n h l))))
 
     reached-became-aborted : (m : ℕ) → IsGiven w m → isAbortedBy w n m ≡ becameAborted w (abortTable w n) m
     reached-became-aborted m h = rw (abort-state m h) (reached (isLive w m) (isAtOrBelow w n m) refl)

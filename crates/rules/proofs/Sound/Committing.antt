@@ -9,16 +9,18 @@ use mathlib.Core.List.{List}
 use borrow.Author.Tests.{eq-eqb, ne-eqb, le-leb}
 use lib.Dec.{eqb}
 use lib.ListN.{length}
-use Rattle.rules.specs.Card.{accountCount, firstCharge, IsCharge}
+use Rattle.rules.specs.Card.{accountCount, firstCharge, chargeCount, chargeAccounts, IsCharge}
+use Rattle.rules.specs.Amount.{amountWord}
 use Rattle.rules.specs.Kind.{IsKind, topKind, kindUnder}
-use Rattle.rules.specs.Table.{width, tableLength, mostActions, committed, word, highestField, highest, counterField, counter, parentField, parentOf, kindOf, stateField, stateOf, withState, endField, endTime, withEndTime, readFields, readField, readEntry, hasRead, subTimeFields, subTimeField, subTime, readTime, writeField, writeEntry, entered, hasWritten, hasWrites, pendingField, pendingWord, ownAddsField, ownAddsWord}
+use Rattle.rules.specs.Table.{width, tableLength, mostActions, committed, word, highestField, highest, counterField, counter, parentField, parentOf, kindOf, stateField, stateOf, withState, endField, endTime, withEndTime, readFields, readField, readEntry, hasRead, subTimeFields, subTimeField, subTime, readTime, writeField, writeEntry, entered, hasWritten, hasWrites, pendingField, pendingWord, ownAddsField, ownAddsWord, keptField, keptWord, keptAfter}
 use Rattle.rules.specs.Queue.{queueLengthField}
 use Rattle.rules.specs.Ledger.{Ledger}
-use Rattle.rules.specs.Commit.{copiedDown, commitTime, commitCounter, endTable, passesRead, joinedWord, joinedRead, joinedTime, joinTable, committedUnder}
+use Rattle.rules.specs.Commit.{copiedDown, commitTime, commitCounter, endTable, keepTable, passesRead, joinedWord, joinedRead, joinedTime, joinTable, committedUnder}
 use Rattle.rules.proofs.Laws.Words.{withWord-length, word-same, word-other-row, word-other-field, word-off-field}
 use Rattle.rules.proofs.Laws.Queue.{SameLine}
 use Rattle.rules.proofs.Laws.Kinds.{kind-known}
-use Rattle.rules.proofs.Laws.Sets.{IsNoSet, withBothSets-length, withBothSets-other-row, withBothSets-other-field, withBothSets-read, withBothSets-time, withBothSets-write}
+use Rattle.rules.proofs.Laws.Fields.{withFields-length, withFields-other-row, withFields-off-field, withFields-same}
+use Rattle.rules.proofs.Laws.Sets.{IsNoSet, charge-within, withBothSets-length, withBothSets-other-row, withBothSets-other-field, withBothSets-read, withBothSets-time, withBothSets-write}
 use Rattle.rules.proofs.Copies.Turns.{IsNoSum, addedWord}
 use Rattle.rules.proofs.Copies.Between.{TableAt, table-between}
 use Rattle.rules.proofs.Copies.Whole.{copied-sum, copied-writes, copied-parent, copied-counter, copied-time}
@@ -82,6 +84,32 @@ module _ (w : List ℕ) (n : ℕ) where
         (λ z. omega arith)
         ∙ word-same stated n endField _ stated-long few (omega arith)
 
+-- ---- the kept sums, in any table
+
+module _ (w : List ℕ) (n p : ℕ) where
+  keep-length : length (keepTable w n p) ≡ length w
+  unfolding keepTable chargeAccounts
+  keep-length = withFields-length w p keptField firstCharge chargeCount _
+
+  -- the rows of others
+  keep-other-row : (m g : ℕ) → g < width → m ≢ p → word (keepTable w n p) m g ≡ word w m g
+  unfolding keepTable chargeAccounts
+  keep-other-row m g h ne = withFields-other-row w p keptField firstCharge chargeCount _ m g (λ k r. omega arith) h ne
+
+  -- what stands before them
+  keep-before : (m g : ℕ) → g < keptField firstCharge → word (keepTable w n p) m g ≡ word w m g
+  unfolding keepTable chargeAccounts
+  keep-before m g near =
+      withFields-off-field w p keptField firstCharge chargeCount _ m g (λ k r. omega arith) (omega arith) (λ k r z. omega arith)
+
+  keep-same :
+      length w ≡ tableLength → p ≤ mostActions →
+      (k : ℕ) → IsCharge k → keptWord (keepTable w n p) p k ≡ amountWord (keptAfter w n p k)
+  unfolding keepTable chargeAccounts
+  keep-same long low k charge =
+      withFields-same w p keptField firstCharge chargeCount _ long low k
+      (charge-within charge) (omega arith) (λ x h ne z. ne (omega arith))
+
 -- ---- the joined words
 
 module _ (w : List ℕ) (n p k : ℕ) where
@@ -106,12 +134,15 @@ module _ (w : List ℕ) (n p k : ℕ) where
 -- ---- the whole commit
 
 module _ (s : Ledger) (n p : ℕ) (one : 1 ≤ n) where
-  -- the table when the copies are made, and when n has ended
+  -- the table when the copies are made, when n has ended, and when its totals are kept
   abbrev copied : List ℕ
   copied = copiedDown s n p 0 .table
 
   abbrev ended : List ℕ
   ended = endTable copied n
+
+  abbrev kept : List ℕ
+  kept = keepTable ended n p
 
   -- the copies change p's sums and nothing else
   by-copies : TableAt s n p 0 (copiedDown s n p 0)
@@ -123,29 +154,39 @@ module _ (s : Ledger) (n p : ℕ) (one : 1 ≤ n) where
   ended-field m g h ns nt (inr off) = end-keeps-field copied n m g h ns nt ∙ by-copies .sameField m g h off
 
   -- the sets that a parent gets change its reads and write entries alone
-  joined-elsewhere : (m g : ℕ) → g < width → (m ≢ p) ⊎ IsNoSet g → word (committedUnder s n p .table) m g ≡ word ended m g
+  from-kept : (m g : ℕ) → g < width → (m ≢ p) ⊎ IsNoSet g → word (committedUnder s n p .table) m g ≡ word kept m g
   unfolding committedUnder joinTable
-  joined-elsewhere m g h where′ = go (ℕ-discrete p 0)
+  from-kept m g h where′ = go (ℕ-discrete p 0)
     where
-      apart : (m ≢ p) ⊎ IsNoSet g → Dec (m ≡ p) → word (joinTable ended n p) m g ≡ word ended m g
-      apart (inl ne) d = withBothSets-other-row ended p _ _ _ m g h ne
-      apart (inr off) (yes e) = rw e (withBothSets-other-field ended p _ _ _ g off)
-      apart (inr off) (no ne) = withBothSets-other-row ended p _ _ _ m g h ne
+      apart : (m ≢ p) ⊎ IsNoSet g → Dec (m ≡ p) → word (joinTable kept n p) m g ≡ word kept m g
+      apart (inl ne) d = withBothSets-other-row kept p _ _ _ m g h ne
+      apart (inr off) (yes e) = rw e (withBothSets-other-field kept p _ _ _ g off)
+      apart (inr off) (no ne) = withBothSets-other-row kept p _ _ _ m g h ne
 
-      go : Dec (p ≡ 0) → word (committedUnder s n p .table) m g ≡ word ended m g
+      go : Dec (p ≡ 0) → word (committedUnder s n p .table) m g ≡ word kept m g
       go (yes e) = rw (eq-eqb p 0 e) refl
       go (no ne) = rw (ne-eqb p 0 ne) (apart where′ (ℕ-discrete m p))
+
+  -- a field of neither set that is no kept sum's
+  abbrev IsUnjoined : ℕ → Type 0
+  IsUnjoined g = (g < subTimeFields) × ((g < readFields) ⊎ (writeField accountCount ≤ g))
+
+  -- so these and what is kept there change p's row alone
+  joined-elsewhere : (m g : ℕ) → g < width → (m ≢ p) ⊎ IsUnjoined g → word (committedUnder s n p .table) m g ≡ word ended m g
+  joined-elsewhere m g h (inl ne) = from-kept m g h (inl ne) ∙ keep-other-row ended n p m g h ne
+  joined-elsewhere m g h (inr (front, apart)) =
+      from-kept m g h (inr (apart, inl front)) ∙ keep-before ended n p m g (omega arith)
 
   pub commit-length : length (committedUnder s n p .table) ≡ length (s .table)
   unfolding committedUnder joinTable
   commit-length = go (ℕ-discrete p 0)
     where
-      ended-length : length ended ≡ length (s .table)
-      ended-length = end-length copied n ∙ by-copies .sameLength
+      kept-length : length kept ≡ length (s .table)
+      kept-length = keep-length ended n p ∙ end-length copied n ∙ by-copies .sameLength
 
       go : Dec (p ≡ 0) → length (committedUnder s n p .table) ≡ length (s .table)
-      go (yes e) = rw (eq-eqb p 0 e) ended-length
-      go (no ne) = rw (ne-eqb p 0 ne) (withBothSets-length ended p _ _ _ ∙ ended-length)
+      go (yes e) = rw (eq-eqb p 0 e) kept-length
+      go (no ne) = rw (ne-eqb p 0 ne) (withBothSets-length kept p _ _ _ ∙ kept-length)
 
   pub commit-highest : highest (committedUnder s n p .table) ≡ highest (s .table)
   commit-highest =
@@ -189,13 +230,17 @@ module _ (s : Ledger) (n p : ℕ) (one : 1 ≤ n) where
   commit-own-adds m k charge = commit-behind m (ownAddsField k) (omega arith) (omega arith)
 
   -- .. and both queues stay
-  head-kept : (g : ℕ) → readFields ≤ g → g < width → IsNoSum g → word (committedUnder s n p .table) 0 g ≡ word (s .table) 0 g
+  head-kept :
+      (g : ℕ) → readFields ≤ g → g < keptField firstCharge → IsNoSum g →
+      word (committedUnder s n p .table) 0 g ≡ word (s .table) 0 g
   unfolding committedUnder
   head-kept g high h off = go (ℕ-discrete p 0)
     where
       go : Dec (p ≡ 0) → word (committedUnder s n p .table) 0 g ≡ word (s .table) 0 g
-      go (yes top) = rw (eq-eqb p 0 top) (ended-field 0 g h (λ z. omega arith) (λ z. omega arith) (inr off))
-      go (no sub) = commit-keeps-others 0 (λ z. sub (sym z)) g high h
+      go (yes top) =
+          rw (eq-eqb p 0 top)
+          (keep-before ended n p 0 g h ∙ ended-field 0 g (omega arith) (λ z. omega arith) (λ z. omega arith) (inr off))
+      go (no sub) = commit-keeps-others 0 (λ z. sub (sym z)) g high (omega arith)
 
   pub commit-line : (h : ℕ) → IsKind h → SameLine (s .table) (committedUnder s n p .table) h
   commit-line h known =
@@ -204,7 +249,21 @@ module _ (s : Ledger) (n p : ℕ) (one : 1 ≤ n) where
         sameEntries = λ i g _ first last. commit-behind i g (omega arith) (omega arith);
       }
 
-  -- the end doesn't touch p's sums, nor do the sets that it gets
+  -- what is to be kept is made of words that neither the copies nor the end change
+  pub kept-after-end :
+      (k : ℕ) → IsCharge k → keptAfter (endTable (copiedDown s n p 0 .table) n) n p k ≡ keptAfter (s .table) n p k
+  kept-after-end k charge =
+      rw (
+        unmoved p (keptField k) (omega arith) (omega arith),
+        unmoved n (keptField k) (omega arith) (omega arith),
+        unmoved n (ownAddsField k) (omega arith) (omega arith),
+      )
+      refl
+    where
+      unmoved : (m g : ℕ) → ownAddsField firstCharge ≤ g → g < width → word ended m g ≡ word (s .table) m g
+      unmoved m g far h = ended-field m g h (λ z. omega arith) (λ z. omega arith) (inr (inr (omega arith)))
+
+  -- the end doesn't touch p's sums, nor do the kept sums and the sets that it gets
   pub commit-sum-copied :
       (k : ℕ) → IsCharge k → pendingWord (committedUnder s n p .table) p k ≡ pendingWord copied p k
   commit-sum-copied k charge =
@@ -214,6 +273,18 @@ module _ (s : Ledger) (n p : ℕ) (one : 1 ≤ n) where
   module _ (long : length (s .table) ≡ tableLength) (few : n ≤ mostActions) where
     copied-long : length copied ≡ tableLength
     copied-long = by-copies .sameLength ∙ long
+
+    ended-long : length ended ≡ tableLength
+    ended-long = end-length copied n ∙ copied-long
+
+    -- row p, an action's or the head, keeps n's total beside what it kept
+    pub commit-kept :
+        p ≤ mostActions → (k : ℕ) → IsCharge k →
+        keptWord (committedUnder s n p .table) p k ≡ amountWord (keptAfter (s .table) n p k)
+    commit-kept low k charge =
+        from-kept p (keptField k) (omega arith) (inr (inr (omega arith), inr (omega arith)))
+        ∙ keep-same ended n p ended-long low k charge
+        ∙ ap amountWord (kept-after-end k charge)
 
     -- the counter of n's kind, and the other
     pub commit-counter : counter (committedUnder s n p .table) (kindOf (s .table) n) ≡ commitCounter (s .table) n
@@ -246,27 +317,29 @@ module _ (s : Ledger) (n p : ℕ) (one : 1 ≤ n) where
 
     -- a parent that is an action gets both unions and the sums
     module _ (action : 1 ≤ p) (low : p ≤ mostActions) where
-      joined : committedUnder s n p .table ≡ joinTable ended n p
+      joined : committedUnder s n p .table ≡ joinTable kept n p
       unfolding committedUnder
       joined = rw (ne-eqb p 0 (λ z. omega arith))
 
-      ended-long : length ended ≡ tableLength
-      ended-long = end-length copied n ∙ copied-long
+      kept-long : length kept ≡ tableLength
+      kept-long = keep-length ended n p ∙ ended-long
 
       -- the words of both for the account are as they were, and so is whatever is made of them
-      entry-kept : (m g : ℕ) → readFields ≤ g → g < width → IsNoSum g → word ended m g ≡ word (s .table) m g
-      entry-kept m g high h off = ended-field m g h (λ z. omega arith) (λ z. omega arith) (inr off)
+      entry-kept :
+          (m g : ℕ) → readFields ≤ g → g < keptField firstCharge → IsNoSum g → word kept m g ≡ word (s .table) m g
+      entry-kept m g high h off =
+          keep-before ended n p m g h ∙ ended-field m g (omega arith) (λ z. omega arith) (λ z. omega arith) (inr off)
 
-      set-kept : (m g : ℕ) → readFields ≤ g → g < writeField accountCount → word ended m g ≡ word (s .table) m g
+      set-kept : (m g : ℕ) → readFields ≤ g → g < writeField accountCount → word kept m g ≡ word (s .table) m g
       set-kept m g high h = entry-kept m g high (omega arith) (inl (omega arith))
 
-      time-kept : (m k : ℕ) → k < accountCount → subTime ended m k ≡ subTime (s .table) m k
+      time-kept : (m k : ℕ) → k < accountCount → subTime kept m k ≡ subTime (s .table) m k
       time-kept m k hk = entry-kept m (subTimeField k) (omega arith) (omega arith) (inr (omega arith))
 
       joined-reads-kept :
           (k : ℕ) → k < accountCount →
-          (writeEntry ended n k ≡ writeEntry (s .table) n k) × (writeEntry ended p k ≡ writeEntry (s .table) p k)
-          × (joinedRead ended n p k ≡ joinedRead (s .table) n p k) × (joinedTime ended n p k ≡ joinedTime (s .table) n p k)
+          (writeEntry kept n k ≡ writeEntry (s .table) n k) × (writeEntry kept p k ≡ writeEntry (s .table) p k)
+          × (joinedRead kept n p k ≡ joinedRead (s .table) n p k) × (joinedTime kept n p k ≡ joinedTime (s .table) n p k)
       joined-reads-kept k hk =
           rw (
             set-kept n (readField k) (omega arith) (omega arith),
@@ -283,14 +356,14 @@ module _ (s : Ledger) (n p : ℕ) (one : 1 ≤ n) where
       unfolding joinTable
       commit-read k hk =
           ap (λ t. readEntry t p k) joined
-          ∙ withBothSets-read ended p _ _ _ ended-long low k hk
+          ∙ withBothSets-read kept p _ _ _ kept-long low k hk
           ∙ joined-reads-kept k hk .2
 
       commit-time : (k : ℕ) → k < accountCount → subTime (committedUnder s n p .table) p k ≡ joinedTime (s .table) n p k
       unfolding joinTable
       commit-time k hk =
           ap (λ t. subTime t p k) joined
-          ∙ withBothSets-time ended p _ _ _ ended-long low k hk
+          ∙ withBothSets-time kept p _ _ _ kept-long low k hk
           ∙ joined-reads-kept k hk .3
 
       -- RULES 4.5: of either kind the parent's time is joined from the two times of that kind
@@ -307,7 +380,7 @@ module _ (s : Ledger) (n p : ℕ) (one : 1 ≤ n) where
       unfolding joinTable
       commit-write k hk =
           ap (λ t. writeEntry t p k) joined
-          ∙ withBothSets-write ended p _ _ _ ended-long low k hk
+          ∙ withBothSets-write kept p _ _ _ kept-long low k hk
           ∙ rw (set-kept n (writeField k) (omega arith) (omega arith), set-kept p (writeField k) (omega arith) (omega arith)) refl
 
       pub commit-pending :

@@ -1,5 +1,5 @@
 -- A commit that is not refused, passed or failed, keeps a sound table sound. Assumes nothing.
-use Prim.Native.Nat.{ℕ, suc, _≤_, _<_, min}
+use Prim.Native.Nat.{ℕ, suc, _+_, _≤_, _<_, min}
 use native.Mathlib.Omega.{arith}
 use native.Mathlib.Decide.{ℕ-discrete}
 use native.Mathlib.Nat.{le-of-eq, le-trans}
@@ -7,25 +7,22 @@ use mathlib.Core.Path.{_≡_, refl, sym, ap, _∙_}
 use mathlib.Core.Logic.{_⊎_, inl, inr, ⊎-elim, _≢_}
 use mathlib.Core.Bool.{Bool, true, false, not, cond}
 use mathlib.Core.List.{List}
-use borrow.Author.Tests.{eqb-true, eq-eqb, ne-eqb}
+use borrow.Author.Tests.{eqb-true}
 use lib.Dec.{eqb}
-use Rattle.rules.specs.Range.{count}
 use Rattle.rules.specs.Card.{accountCount, IsCharge}
-use Rattle.rules.specs.Kind.{IsKind, kindUnder}
-use Rattle.rules.specs.Table.{hasEnd, width, mostActions, live, committed, aborted, word, highestField, highest, counterField, counter, parentField, parentOf, kindOf, stateField, stateOf, withState, endField, endTime, readField, readEntry, hasRead, subTimeField, subTime, readTime, writeField, writeEntry, entered, hasWritten, hasWrites, pendingField, pendingWord, isLive, isCommitted, actions}
-use Rattle.rules.specs.Queue.{queueLengthField, isQueued}
-use Rattle.rules.specs.Sound.{isCommittedOf, hasState, IsGiven, Sound}
+use Rattle.rules.specs.Kind.{IsKind}
+use Rattle.rules.specs.Table.{hasEnd, width, mostActions, live, committed, aborted, word, highestField, highest, counterField, counter, lastTime, parentField, parentOf, kindOf, stateField, stateOf, withState, endField, endTime, readField, readEntry, hasRead, subTimeField, subTime, readTime, writeField, writeEntry, entered, hasWritten, hasWrites, pendingField, pendingWord, isLive, isCommitted}
+use Rattle.rules.specs.Queue.{queueLengthField, queueLength, isQueued}
+use Rattle.rules.specs.Sound.{hasState, IsGiven, Sound}
 use Rattle.rules.specs.Ledger.{Ledger}
 use Rattle.rules.specs.Commit.{commitTime, commitCounter, passesRead, joinedWord, joinedRead, committedUnder}
-use Rattle.rules.proofs.Laws.Tests.{and-left, and-right, and-both, and-false, test, not-both, false-of-not-true}
-use Rattle.rules.proofs.Laws.Ranges.{count-agree, count-one-more}
+use Rattle.rules.proofs.Laws.Tests.{and-left, and-right, and-both, test, not-both, false-of-not-true}
 use Rattle.rules.proofs.Laws.Permitted.{Committable, no-live-child, not-own-parent}
 use Rattle.rules.proofs.Laws.Words.{withWord-length, word-same, word-other-row, word-off-field}
-use Rattle.rules.proofs.Laws.Kinds.{kind-known, unqueued-in}
+use Rattle.rules.proofs.Laws.Kinds.{unqueued-in}
 use Rattle.rules.proofs.Laws.Queue.{SameLine}
-use Rattle.rules.proofs.Laws.Walking.{parent-known}
 use Rattle.rules.proofs.Copies.Turns.{addedWord}
-use Rattle.rules.proofs.Sound.TableChanges.{ReadsInTime, TableChange, Ended, SumStays, sum-stays, line-stays, writes-agree, live-uncommitted}
+use Rattle.rules.proofs.Sound.TableChanges.{ReadsInTime, Bounded, bounds-stay, TableChange, Ended, SumStays, sum-stays, line-stays, writes-agree, live-uncommitted}
 use Rattle.rules.proofs.Sound.Committing.{commit-length, commit-highest, commit-parent, commit-keeps-row, commit-keeps-sets, commit-keeps-others, commit-line, commit-counter, commit-other-counter, commit-state, commit-end, commit-read, commit-read-time, commit-write, commit-pending}
 
 -- ---- one action finishes: what its state alone gives of a change
@@ -83,7 +80,7 @@ module _ (w : List ℕ) (s : Sound w) (n : ℕ) (j : Committable w n) where
   fail-head g h = word-other-row w n 0 stateField g aborted (omega arith) h (λ z. omega (arith, j .own))
 
   -- it was live, so it was not committed; now it is aborted
-  pub fail-committed : (m : ℕ) → 1 ≤ m → isCommitted failed m ≡ isCommitted w m
+  fail-committed : (m : ℕ) → 1 ≤ m → isCommitted failed m ≡ isCommitted w m
   fail-committed m pos = go (ℕ-discrete m n)
     where
       go : Dec (m ≡ n) → isCommitted failed m ≡ isCommitted w m
@@ -108,9 +105,6 @@ module _ (w : List ℕ) (s : Sound w) (n : ℕ) (j : Committable w n) where
       rw (entry, time, fail-counter h known)
       (s .reads h m k known begun (was-live w failed n j (inr fail-state) fail-others m begun l) hk (rw entry at r))
 
-  fail-counted : (h : ℕ) (m : ℕ) → 1 ≤ m → isCommittedOf failed h m ≡ isCommittedOf w h m
-  fail-counted h m pos = rw (fail-committed m pos, fail-keeps-field m parentField (omega arith) (λ z. omega arith)) refl
-
   pub fail-line : (h : ℕ) → IsKind h → SameLine w (withState w n aborted) h
   fail-line h known =
       record {
@@ -119,20 +113,12 @@ module _ (w : List ℕ) (s : Sound w) (n : ℕ) (j : Committable w n) where
       }
 
   pub fail-change : TableChange w (withState w n aborted) n
-  unfolding actions
   fail-change =
       record {
         long = withWord-length w n stateField aborted ∙ s .long;
         sameHighest = fail-head highestField (omega arith);
         rising = λ h known. le-of-eq (sym (fail-counter h known));
-        counted =
-            λ h known.
-            rw (
-              fail-counter h known,
-              fail-head highestField (omega arith),
-              count-agree (isCommittedOf failed h) (isCommittedOf w h) 1 (highest w) (λ m r. fail-counted h m (r .0)),
-            )
-            (s .counted h known);
+        bounded = bounds-stay s failed fail-counter (λ h known. fail-line h known .sameLength);
         states = has-state w failed n j (inr fail-state) fail-others s;
         parents = λ m h. fail-keeps-field m parentField (omega arith) (λ z. omega arith);
         wasLive = was-live w failed n j (inr fail-state) fail-others;
@@ -182,7 +168,7 @@ module _ (ledger : Ledger) (s : Sound (ledger .table)) (n : ℕ) (j : Committabl
   n-few = omega (arith, j .own, s .few)
 
   parent-given : parent ≤ highest w
-  parent-given = parent-known s n (j .own)
+  parent-given = s .known n (j .own)
 
   -- a parent that is an action is a live one
   parent-live : 1 ≤ parent → isLive w parent ≡ true
@@ -220,35 +206,13 @@ module _ (ledger : Ledger) (s : Sound (ledger .table)) (n : ℕ) (j : Committabl
   pass-parent : (m : ℕ) → parentOf passed m ≡ parentOf w m
   pass-parent = commit-parent ledger n parent (j .own .0)
 
-  -- of its kind one more has committed, of the other as many as before
-  one-more-committed : count (isCommittedOf passed kind) (actions passed) ≡ suc (count (isCommittedOf w kind) (actions w))
-  unfolding actions
-  one-more-committed =
-      rw (commit-highest ledger n parent (j .own .0))
-      (count-one-more (isCommittedOf w kind) (isCommittedOf passed kind) 1 (highest w) n (omega (arith, j .own))
-      (rw (false-of-not-true _ (live-uncommitted w n (j .alive))) refl)
-      (and-both (eq-eqb _ _ pass-state) (eq-eqb _ _ (ap kindUnder (pass-parent n))))
-      (λ m h ne. rw (pass-others m (h .0) ne, pass-parent m) refl))
-
-  others-committed :
-      (h : ℕ) → h ≢ kind → count (isCommittedOf passed h) (actions passed) ≡ count (isCommittedOf w h) (actions w)
-  unfolding actions
-  others-committed h apart =
-      rw (commit-highest ledger n parent (j .own .0))
-      (count-agree (isCommittedOf passed h) (isCommittedOf w h) 1 (highest w) (λ m r. same m (r .0) (ℕ-discrete m n)))
+  -- there was time left for it
+  pass-bounded : Bounded passed
+  pass-bounded h known = rw (commit-line ledger n parent (j .own .0) h known .sameLength) (go (ℕ-discrete h kind))
     where
-      same : (m : ℕ) → 1 ≤ m → Dec (m ≡ n) → isCommittedOf passed h m ≡ isCommittedOf w h m
-      same m pos (yes e) =
-          let other : eqb kind h ≡ false = ne-eqb kind h (λ z. apart (sym z)) in
-          rw (e, pass-parent n, other) (and-false (isCommitted passed n) ∙ sym (and-false (isCommitted w n)))
-      same m pos (no ne) = rw (pass-others m pos ne, pass-parent m) refl
-
-  pass-counted : (h : ℕ) → IsKind h → counter passed h ≤ count (isCommittedOf passed h) (actions passed)
-  pass-counted h known = go (ℕ-discrete h kind)
-    where
-      go : Dec (h ≡ kind) → counter passed h ≤ count (isCommittedOf passed h) (actions passed)
-      go (yes e) = rw e (rw (pass-counter, one-more-committed) (omega (arith, counter-step .1, s .counted kind (kind-known parent))))
-      go (no apart) = rw (pass-other-counter h known apart, others-committed h apart) (s .counted h known)
+      go : Dec (h ≡ kind) → counter passed h + queueLength w h ≤ lastTime
+      go (yes e) = rw (e, pass-counter) (omega (arith, counter-step .1, j .timeLeft))
+      go (no apart) = rw (pass-other-counter h known apart) (s .bounded h known)
 
   -- the write set of the action that commits is as it was, so its end time is what the commit made it
   own-end : hasEnd passed n ≡ true → Ended w passed n n
@@ -346,7 +310,7 @@ module _ (ledger : Ledger) (s : Sound (ledger .table)) (n : ℕ) (j : Committabl
         long = commit-length ledger n parent (j .own .0) ∙ s .long;
         sameHighest = commit-highest ledger n parent (j .own .0);
         rising = pass-rising;
-        counted = pass-counted;
+        bounded = pass-bounded;
         states = has-state w passed n j (inl pass-state) pass-others s;
         parents = λ m _. pass-parent m;
         wasLive = was-live w passed n j (inl pass-state) pass-others;

@@ -4,18 +4,20 @@ use Prim.Native.Nat.{ℕ}
 use mathlib.Core.Path.{_≡_, refl, _∙_}
 use mathlib.Core.Bool.{Bool, true, false}
 use mathlib.Core.List.{List, []}
-use Rattle.rules.specs.Range.{upFrom, all, count}
+use Rattle.rules.specs.Range.{upFrom, all}
 use Rattle.rules.specs.Card.{IsCharge}
 use Rattle.rules.specs.Table.{word, newTable, kindOf, parentOf, actions}
 use Rattle.rules.specs.Kind.{kinds}
+use Rattle.rules.specs.Free.{nextNumber}
 use Rattle.rules.specs.Queue.{queue, isQueued, withoutBelow}
-use Rattle.rules.specs.Sound.{isCounted, areDistinct, queueNumbers, isSoundQueue, sound, Sound}
+use Rattle.rules.specs.Sound.{isBounded, areDistinct, queueNumbers, isSoundQueue, sound, Sound}
 use Rattle.rules.specs.Event.{Event}
 use Rattle.rules.specs.declared.Found.{Found}
 use Rattle.rules.specs.declared.Found.the-variants.{Nothing, At}
 use Rattle.rules.specs.Ledger.{Ledger}
 use Rattle.rules.specs.Step.{Outcome, start, read, write, add, judged, enterTable, enter, isJudgedFailed, revealed, judgeLeft, judge, dropped, abortLeft, abort, step}
 use Rattle.rules.proofs.Laws.Kinds.{kind-known}
+use Rattle.rules.proofs.Laws.Freeing.{next-givable}
 use Rattle.rules.proofs.Laws.Permitted.{Startable, Touchable, Committable, Judgeable, step-by-kind}
 use Rattle.rules.proofs.Sound.Soundness.{facts}
 use Rattle.rules.proofs.Sound.TableChanges.{TableChange, change-keeps-sound}
@@ -30,7 +32,7 @@ use Rattle.rules.proofs.Sound.TakingOut.{out-sound, out-reach, out-spar
 use Rattle.rules.proofs.Sound.Leaving.{leave-keeps-sound, both-keep-sound}
 
 pub new-sound : Sound newTable
-unfolding sound newTable word actions upFrom all count kinds isCounted isSoundQueue areDistinct queueNumbers queue
+unfolding sound newTable word actions upFrom all kinds isBounded isSoundQueue areDistinct queueNumbers queue
 new-sound = facts newTable refl
 
 -- ---- event by event, where it isn't refused
@@ -45,7 +47,9 @@ module _ (s : Ledger) (was : Sound (s .table)) (n : ℕ) where
 
   start-sound : Startable (s .table) n → Sounds (start s n) []
   unfolding start
-  start-sound p = start-keeps-sound (s .table) n was (p .room) (p .known) (p .alive) (p .unqueued)
+  start-sound p =
+      start-keeps-sound (s .table) (nextNumber (s .table)) n was (next-givable (s .table) (was .few) (p .room)) (p .known) (p .alive)
+      (p .unqueued)
 
   read-sound : (k : ℕ) → Touchable (s .table) n k → Sounds (read s n k) []
   unfolding read

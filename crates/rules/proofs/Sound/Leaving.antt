@@ -12,7 +12,7 @@ use lib.ListN.{length}
 use borrow.Author.Tests.{ltb-true, eqb-true, eq-eqb}
 use Rattle.rules.specs.Range.{upFrom, any, filter}
 use Rattle.rules.specs.Table.{parentOf, isLive, hasLiveChild}
-use Rattle.rules.specs.Walk.{isAtOrBelow, isAbortedBy}
+use Rattle.rules.specs.Walk.{Climbs, isAtOrBelow, isAbortedBy}
 use Rattle.rules.specs.Kind.{IsKind, topKind, subKind}
 use Rattle.rules.specs.Queue.{queueLength, Entry, entryAt, queue, isQueued, headOf, isHeadReady, keepsPlace, withoutBelow}
 use Rattle.rules.specs.Sound.{areDistinct, queueNumbers, IsGiven, Sound}
@@ -23,7 +23,7 @@ use Rattle.rules.proofs.Laws.Lists.{any-map, all-map, listed-all, filte
 use Rattle.rules.proofs.Laws.Distinct.{distinct-parts}
 use Rattle.rules.proofs.Laws.Queue.{queue-kept, queue-length}
 use Rattle.rules.proofs.Laws.Permitted.{Committable, no-live-child}
-use Rattle.rules.proofs.Laws.Walking.{Climbs, climb-holds, sound-climbs, parent-known, atOrBelow-store, atOrBelow-step, atOrBelow-itself}
+use Rattle.rules.proofs.Laws.Walking.{climb-holds, atOrBelow-store, atOrBelow-step, atOrBelow-itself}
 use Rattle.rules.proofs.Sound.TableChanges.{change-keeps-sound}
 use Rattle.rules.proofs.Sound.QueueChanges.{numbersOf, without-queue, without-other-queue, without-change, out-committable}
 use Rattle.rules.proofs.Sound.Committing.{commit-line}
@@ -54,7 +54,7 @@ nobody-below :
     {w : List ℕ} → Sound w → (n : ℕ) → hasLiveChild w n ≡ false → (m : ℕ) → IsGiven w m → isLive w m ≡ true → m ≢ n →
     isAtOrBelow w n m ≡ false
 nobody-below {w} s n none m begun alive other =
-    false-of-not-true _ (climb-holds w Below (λ h _ _ _. omega arith) further m (sound-climbs s m (begun .1)) begun alive other)
+    false-of-not-true _ (climb-holds w Below (λ h _ _ _. omega arith) further m (s .climb m begun alive) begun alive other)
   where
     Below : ℕ → Type 0
     Below x = IsGiven w x → isLive w x ≡ true → x ≢ n → isAtOrBelow w n x ≡ true → ⊥
@@ -66,7 +66,7 @@ nobody-below {w} s n none m begun alive other =
     by-parent x h l below above (yes under) _ = no-live-child w n none x h l under
     by-parent x h l below above (no apart) (yes top) = not-both below (ap (isAtOrBelow w n) top ∙ atOrBelow-store w n)
     by-parent x h l below above (no apart) (no action) =
-        above (omega arith, parent-known s x h) (⊎-elim (λ top. absurd (action top)) (λ alive. alive) (s .alive x h l)) apart below
+        above (omega arith, s .known x h) (⊎-elim (λ top. absurd (action top)) (λ alive. alive) (s .alive x h l)) apart below
 
     further : (x : ℕ) → x ≢ 0 → Climbs w x → Below (parentOf w x) → Below x
     further x ne up above h l apart below =
@@ -91,7 +91,7 @@ module _ (h : ℕ) (known : IsKind h) {w : List ℕ} (s : Sound w) (e : Entry) (
   unfolding any
   first-reached =
       let may = s .lines h known .waits n (listed-queued n (or-inl _ (eq-eqb n n refl))) in
-      and-both (may .alive) (atOrBelow-itself w n (λ z. omega (arith, may .begun)) (sound-climbs s n (may .begun .1)))
+      and-both (may .alive) (atOrBelow-itself w n (λ z. omega (arith, may .begun)) (s .climb n (may .begun) (may .alive)))
 
   others-spared : (m : ℕ) → any (eqb m) (numbersOf es) ≡ true → not (isAbortedBy w n m) ≡ true
   unfolding any

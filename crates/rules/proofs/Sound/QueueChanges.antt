@@ -1,6 +1,6 @@
 -- The changes of a queue, of either kind: a sound table stays sound where a queue is lengthened by an action of its kind that may
 -- wait, where one becomes ready, and where some are taken out; the other queue stays. Assumes nothing.
-use Prim.Native.Nat.{ℕ, _≤_, _<_}
+use Prim.Native.Nat.{ℕ, _+_, _≤_, _<_}
 use native.Mathlib.Omega.{arith}
 use native.Mathlib.Decide.{ℕ-discrete}
 use mathlib.Core.Path.{_≡_, refl, sym, ap, _∙_, fun-ext}
@@ -12,18 +12,18 @@ use lib.ListN.{length, length-map, length-append}
 use borrow.Author.Tests.{eqb-true, not-true}
 use Rattle.rules.specs.Range.{any, filter}
 use Rattle.rules.specs.Kind.{IsKind, kindUnder}
-use Rattle.rules.specs.Table.{IsActionField, width, mostActions, word, highestField, highest, counterField, counter, parentField, parentOf, kindOf, stateField, endField, readField, readEntry, subTimeField, subTime, writeField, pendingField, isLive, hasEnd}
+use Rattle.rules.specs.Table.{IsActionField, width, mostActions, word, highestField, highest, counterField, counter, lastTime, parentField, parentOf, kindOf, stateField, endField, readField, readEntry, subTimeField, subTime, writeField, pendingField, isLive, hasEnd}
 use Rattle.rules.specs.Walk.{isAtOrBelow, isAbortedBy}
-use Rattle.rules.specs.Queue.{numberField, readyField, queueLengthField, queueLength, Entry, isOf, queue, isQueued, withQueue, newEntry, withTail, readied, withReady, keepsPlace, withoutBelow}
+use Rattle.rules.specs.Queue.{numberField, readyField, queueLengthField, queueLength, Entry, isOf, queue, isQueued, isWaiting, withQueue, newEntry, withTail, readied, withReady, keepsPlace, withoutBelow}
 use Rattle.rules.specs.Sound.{areDistinct, queueNumbers, IsGiven, MayWait, SoundQueue, Sound}
 use Rattle.rules.proofs.Laws.Tests.{and-left, and-right, and-both, or-cases, or-false, not-both, false-of-not-true, cond-holds}
-use Rattle.rules.proofs.Laws.Lists.{map-append, map-map, filter-map, any-map, any-append, any-filter, any-weaker, any-implies, length-filter}
+use Rattle.rules.proofs.Laws.Lists.{map-append, map-map, filter-map, any-map, any-append, any-filter, any-weaker, any-implies, length-filter, filter-shorter}
 use Rattle.rules.proofs.Laws.Distinct.{distinct-filter, distinct-append, pigeonhole}
 use Rattle.rules.proofs.Laws.Kinds.{either-side, unqueued-in, unqueued-of}
 use Rattle.rules.proofs.Laws.Queue.{OffEntry, withQueue-length, withQueue-off, queueLength-same, queue-same, queue-length, SameLine, queue-kept}
 use Rattle.rules.proofs.Laws.Permitted.{Committable}
-use Rattle.rules.proofs.Laws.Walking.{sound-climbs, atOrBelow-itself}
-use Rattle.rules.proofs.Sound.TableChanges.{ReadsInTime, TableChange, change-keeps-sound, sum-stays, writes-agree, still-childless, quiet-line, quiet-change}
+use Rattle.rules.proofs.Laws.Walking.{atOrBelow-itself}
+use Rattle.rules.proofs.Sound.TableChanges.{ReadsInTime, Bounded, TableChange, change-keeps-sound, sum-stays, writes-agree, still-childless, quiet-line, quiet-change}
 
 -- the numbers of entries
 abbrev pub numbersOf : List Entry → List ℕ
@@ -115,10 +115,18 @@ module _ (w : List ℕ) (s : Sound w) (h : ℕ) (known : IsKind h) (es : List En
           quiet-line w given s x is (other-line x is apart) highest-kept parent-kept
           (λ m. given-keeps m stateField (inl (omega arith)) (inr (λ z. omega arith)))
 
-  pub queue-change : SoundQueue given h → (now : ℕ) → TableChange w given now
-  queue-change line now =
+  -- the counter has room for the end times of those who stand there now
+  bounds-kept : counter w h + length es ≤ lastTime → Bounded given
+  bounds-kept room x is = rw (counter-kept x is) (go (ℕ-discrete x h))
+    where
+      go : Dec (x ≡ h) → counter w x + queueLength given x ≤ lastTime
+      go (yes same) = rw same (rw (queueLength-same h known w es (s .long)) room)
+      go (no apart) = rw (other-line x is apart .sameLength) (s .bounded x is)
+
+  pub queue-change : counter w h + length es ≤ lastTime → SoundQueue given h → (now : ℕ) → TableChange w given now
+  queue-change room line now =
       quiet-change w given now s (withQueue-length h known w es) highest-kept
-      counter-kept parent-kept
+      counter-kept (bounds-kept room) parent-kept
       (λ m. given-keeps m stateField (inl (omega arith)) (inr (λ z. omega arith)))
       reads-kept
       (λ m h e. inl (sym (end-kept m h) ∙ e, given-keeps m endField (inl (omega arith)) (inl (h .0))))
@@ -161,49 +169,62 @@ module _ {w : List ℕ} (s : Sound w) (h : ℕ) (known : IsKind h) where
 
   -- ---- one more at the tail
 
-  module _ (n : ℕ) (kind : kindOf w n ≡ h) (free : Committable w n) (verdict : ℕ) where
-    abbrev longer : List Entry
-    longer = queue w h ++ (newEntry n verdict ∷ [])
+  abbrev longer : ℕ → ℕ → List Entry
+  longer n verdict = queue w h ++ (newEntry n verdict ∷ [])
 
-    longer-queued : (m : ℕ) → any (isOf m) longer ≡ (isQueued w h m || eqb m n)
+  module _ (n : ℕ) (may : MayWait w h n) (unqueued : isWaiting w n ≡ false) (verdict : ℕ) where
+    longer-queued : (m : ℕ) → any (isOf m) (longer n verdict) ≡ (isQueued w h m || eqb m n)
     unfolding isQueued any
     longer-queued m = any-append (isOf m) (queue w h) (newEntry n verdict ∷ []) ∙ rw (or-false (eqb m n))
 
-    longer-once : areDistinct (numbersOf longer) ≡ true
+    longer-once : areDistinct (numbersOf (longer n verdict)) ≡ true
     unfolding isQueued
     longer-once =
         rw (map-append (λ (e : Entry). e .number) (queue w h) (newEntry n verdict ∷ []))
         (distinct-append (numbersOf (queue w h)) n numbers-once
-        (any-map (eqb n) (λ (e : Entry). e .number) (queue w h) ∙ unqueued-in w n (free .unqueued) h known))
+        (any-map (eqb n) (λ (e : Entry). e .number) (queue w h) ∙ unqueued-in w n unqueued h known))
 
-    longer-waits : (m : ℕ) → any (isOf m) longer ≡ true → MayWait w h m
+    longer-waits : (m : ℕ) → any (isOf m) (longer n verdict) ≡ true → MayWait w h m
     longer-waits m listed =
         ⊎-elim
         (s .lines h known .waits m)
-        (λ same. rw (eqb-true m n same) (record { begun = free .own; alive = free .alive; kind = kind; childless = free .childless }))
+        (λ same. rw (eqb-true m n same) may)
         (or-cases (isQueued w h m) (eqb m n) (sym (longer-queued m) ∙ listed))
 
     -- there is room: those who wait are distinct actions
-    longer-few : length longer ≤ mostActions
+    longer-few : length (longer n verdict) ≤ mostActions
     longer-few =
-        let numbers = pigeonhole (highest w) (numbersOf longer) longer-once
-        (λ m listed. longer-waits m (sym (any-map (eqb m) (λ (e : Entry). e .number) longer) ∙ listed) .begun) in
-        omega (arith, length-map longer (λ (e : Entry). e .number), numbers, s .few)
+        let numbers = pigeonhole (highest w) (numbersOf (longer n verdict)) longer-once
+        (λ m listed. longer-waits m (sym (any-map (eqb m) (λ (e : Entry). e .number) (longer n verdict)) ∙ listed) .begun) in
+        omega (arith, length-map (longer n verdict) (λ (e : Entry). e .number), numbers, s .few)
 
     pub room-at-tail : queueLength w h < mostActions
     room-at-tail = omega (arith, longer-few, length-append (queue w h) (newEntry n verdict ∷ []), queue-length w h)
 
+  module _ (n : ℕ) (kind : kindOf w n ≡ h) (free : Committable w n) (verdict : ℕ) where
+    may-enter : MayWait w h n
+    may-enter = record { begun = free .own; alive = free .alive; kind = kind; childless = free .childless }
+
+    room-in-time : counter w h + length (longer n verdict) ≤ lastTime
+    room-in-time =
+        omega (arith, length-append (queue w h) (newEntry n verdict ∷ []), queue-length w h, rw kind at (free .timeLeft))
+
     pub tail-queue : queue (withTail w h n verdict) h ≡ queue w h ++ (newEntry n verdict ∷ [])
     unfolding withTail
-    tail-queue = queue-same h known w longer (s .long) longer-few
+    tail-queue = queue-same h known w (longer n verdict) (s .long) (longer-few n may-enter (free .unqueued) verdict)
 
     pub tail-keeps : (m g : ℕ) → IsActionField g → OffLength h m g → word (withTail w h n verdict) m g ≡ word w m g
     unfolding withTail
-    tail-keeps = given-keeps w s h known longer
+    tail-keeps = given-keeps w s h known (longer n verdict)
 
     pub tail-change : (now : ℕ) → TableChange w (withTail w h n verdict) now
     unfolding withTail
-    tail-change = queue-change w s h known longer (given-line w s h known longer longer-few longer-waits longer-once)
+    tail-change =
+        queue-change w s h known (longer n verdict) room-in-time
+        (given-line w s h known (longer n verdict)
+        (longer-few n may-enter (free .unqueued) verdict)
+        (longer-waits n may-enter (free .unqueued) verdict)
+        (longer-once n may-enter (free .unqueued) verdict))
 
   -- ---- one becomes ready
 
@@ -241,6 +262,7 @@ module _ {w : List ℕ} (s : Sound w) (h : ℕ) (known : IsKind h) where
     unfolding withReady
     ready-change =
         queue-change w s h known marked
+        (omega (arith, length-map (queue w h) (readied n), queue-length w h, s .bounded h known))
         (given-line w s h known marked marked-few (λ m listed. waits-as-listed m (sym (marked-queued m) ∙ listed))
         (rw marked-numbers numbers-once))
 
@@ -293,6 +315,7 @@ module _ {w : List ℕ} (s : Sound w) (h : ℕ) (known : IsKind h) where
     unfolding withoutBelow
     without-change =
         queue-change w s h known fewer
+        (omega (arith, length-filter (keepsPlace w n) (queue w h), queue-length w h, s .bounded h known))
         (given-line w s h known fewer fewer-few (λ m listed. s .lines h known .waits m (kept-listed m listed .0))
         (rw (← filter-numbers) (distinct-filter (λ m. not (isAbortedBy w n m)) (numbersOf (queue w h)) numbers-once)))
 
@@ -302,7 +325,21 @@ module _ {w : List ℕ} (s : Sound w) (h : ℕ) (known : IsKind h) where
     same-reach m =
         rw (live-kept w s h known fewer m, fun-ext (parent-kept w s h known fewer))
 
-    -- one who waits is not among those who do then, and may commit
+    -- an abort of one who waits reaches it
+    reaches-itself : isQueued w h n ≡ true → isAbortedBy w n n ≡ true
+    reaches-itself queued =
+        let may = s .lines h known .waits n queued in
+        and-both (may .alive) (atOrBelow-itself w n (λ z. omega (arith, may .begun)) (s .climb n (may .begun) (may .alive)))
+
+    one-fewer-waits : isQueued w h n ≡ true → length fewer < length (queue w h)
+    unfolding isQueued keepsPlace
+    one-fewer-waits queued =
+        filter-shorter (keepsPlace w n) (queue w h)
+        (any-weaker (isOf n) (λ e. not (keepsPlace w n e))
+        (λ e own. rw (← eqb-true n (e .number) own, reaches-itself queued) refl)
+        (queue w h) queued)
+
+    -- one who waits is not among those who do then, and may commit: its place in the queue stood for an end time
     pub out-committable : isQueued w h n ≡ true → Committable (withoutBelow w h n) n
     unfolding withoutBelow
     out-committable queued =
@@ -313,14 +350,15 @@ module _ {w : List ℕ} (s : Sound w) (h : ℕ) (known : IsKind h) where
           alive = still .alive;
           childless = still .childless;
           unqueued = unqueued-of _ n (λ x is. false-of-not-true _ (λ there. out-of-queue (rw (its-queue x is there) at there)));
+          timeLeft =
+              rw (still .kind, counter-kept w s h known fewer h known, queueLength-same h known w fewer (s .long))
+              (omega (arith, one-fewer-waits queued, queue-length w h, s .bounded h known));
         }
       where
         -- it isn't kept where it stood
         out-of-queue : isQueued (withQueue w h fewer) h n ≡ true → ⊥
         out-of-queue there =
-            let may = s .lines h known .waits n queued in
-            not-both
-            (and-both (may .alive) (atOrBelow-itself w n (λ z. omega (arith, may .begun)) (sound-climbs s n (may .begun .1))))
+            not-both (reaches-itself queued)
             (kept-listed n (sym (queued-given w s h known fewer fewer-few n) ∙ there) .1)
 
         -- .. and no queue but that of its kind has it

@@ -3,6 +3,7 @@
 use Prim.Native.Nat.{ℕ, zero, suc, _+_, _-_, _≤_, _<_}
 use native.Mathlib.Omega.{arith}
 use native.Mathlib.Decide.{ℕ-discrete}
+use native.Mathlib.Nat.{le-of-eq}
 use mathlib.Core.Path.{_≡_, refl, sym, ap, ap₂, _∙_}
 use mathlib.Core.Logic.{_⊎_, inl, inr, _≢_}
 use mathlib.Core.Bool.{Bool, true, false, cond, _&&_}
@@ -17,16 +18,23 @@ use Rattle.rules.specs.Sound.{IsGiven, Sound}
 use Rattle.rules.specs.Step.{leavesReadSet, withReadNow, readTable}
 use Rattle.rules.proofs.Laws.Words.{withWord-length, word-same, word-other-row, word-other-field, word-off-field}
 use Rattle.rules.proofs.Laws.Queue.{SameLine}
-use Rattle.rules.proofs.Sound.TableChanges.{ReadsInTime, TableChange, sum-stays, quiet-line, quiet-change, writes-agree}
+use Rattle.rules.proofs.Sound.TableChanges.{ReadsInTime, TableChange, bounds-stay, sum-stays, quiet-line, quiet-change, writes-agree}
 use Rattle.rules.proofs.Laws.Tests.{cond-holds}
 
 -- ---- the table after a read of account k by n
 
 -- action m's read of account j in the table v, after w: as it was, or made with both counters as its times
-abbrev OldOrNew : List ℕ → List ℕ → ℕ → ℕ → Type 0
+abbrev pub OldOrNew : List ℕ → List ℕ → ℕ → ℕ → Type 0
 OldOrNew w v m j =
     ((readEntry v m j ≡ readEntry w m j) × (subTime v m j ≡ subTime w m j))
     ⊎ ((readEntry v m j ≡ counter w topKind + 1) × (subTime v m j ≡ counter w subKind))
+
+-- of either kind the new time is that kind's counter
+pub new-time :
+    (w : List ℕ) (h : ℕ) → IsKind h → cond (eqb h topKind) (counter w topKind + 1 - 1) (counter w subKind) ≡ counter w h
+new-time w zero known = omega arith
+new-time w (suc zero) known = refl
+new-time w (suc (suc h)) known = absurd (omega arith)
 
 module _ (w : List ℕ) (n k : ℕ) (account : k < accountCount) where
   -- the table with the entry put in; the subaction time comes last
@@ -95,7 +103,7 @@ module _ (w : List ℕ) (n k : ℕ) (account : k < accountCount) where
       own-entry : OldOrNew w (readTable w n k) n k
       own-entry = read-holds (λ v. OldOrNew w v n k) (inl (refl, refl)) (inr (put-entry, put-time))
 
-    entry-after : (m j : ℕ) → IsGiven w m → j < accountCount → OldOrNew w (readTable w n k) m j
+    pub entry-after : (m j : ℕ) → IsGiven w m → j < accountCount → OldOrNew w (readTable w n k) m j
     entry-after m j begun hj = go (ℕ-discrete m n) (ℕ-discrete j k)
       where
         kept : (g : ℕ) → g < width → g ≢ readField k → g ≢ subTimeField k → word (readTable w n k) m g ≡ word w m g
@@ -113,16 +121,10 @@ module _ (w : List ℕ) (n k : ℕ) (account : k < accountCount) where
     reads-in-time : ReadsInTime w (readTable w n k)
     reads-in-time h m j known begun l hj r = rw (counter-kept h known) (go (entry-after m j begun hj))
       where
-        -- of either kind the new time is that kind's counter
-        now : (x : ℕ) → IsKind x → cond (eqb x topKind) (counter w topKind + 1 - 1) (counter w subKind) ≤ counter w x
-        now zero is = omega arith
-        now (suc zero) is = omega arith
-        now (suc (suc x)) is = absurd (omega arith)
-
         go : OldOrNew w (readTable w n k) m j → readTime (readTable w n k) h m j ≤ counter w h
         go (inl old) =
             rw (old .0, old .1) (s .reads h m j known begun (rw (state-kept m) at l) hj (rw (old .0) at r))
-        go (inr new) = rw (new .0, new .1) (now h known)
+        go (inr new) = rw (new .0, new .1) (le-of-eq (new-time w h known))
 
     pub read-line : IsGiven w n → (h : ℕ) → IsKind h → SameLine w (readTable w n k) h
     read-line own h known =
@@ -135,7 +137,7 @@ module _ (w : List ℕ) (n k : ℕ) (account : k < accountCount) where
     read-change own =
         quiet-change w (readTable w n k) n s read-length
         (read-keeps-field 0 highestField (omega arith) (λ z. omega arith) (λ z. omega arith))
-        counter-kept
+        counter-kept (bounds-stay s (readTable w n k) counter-kept (λ h known. read-line own h known .sameLength))
         (λ m. read-keeps-field m parentField (omega arith) (λ z. omega arith) (λ z. omega arith))
         state-kept reads-in-time
         (λ m h e. inl (sym (end-kept m) ∙ e, read-keeps-field m endField (omega arith) (λ z. omega arith) (λ z. omega arith)))

@@ -1,26 +1,27 @@
 -- The test for a sound table and the facts that it stands for, from the one to the other and back. Assumes nothing.
-use Prim.Native.Nat.{ℕ, _-_, _≤_, _<_}
+use Prim.Native.Nat.{ℕ, _+_, _-_, _≤_, _<_}
 use native.Mathlib.Omega.{arith}
 use mathlib.Core.Path.{_≡_, sym, ap, _∙_}
-use mathlib.Core.Logic.{_⊎_, ⊎-elim, ⊎-map}
+use mathlib.Core.Logic.{_⊎_, ⊎-elim, ⊎-map, _≢_}
 use mathlib.Core.Bool.{Bool, true, false, not, _&&_, _||_}
 use mathlib.Core.List.{List}
-use borrow.Author.Tests.{ltb-true, ltb-false, leb-true, eqb-true, lt-ltb, le-leb, eq-eqb, not-true, not-false}
+use borrow.Author.Tests.{ltb-true, ltb-false, leb-true, eqb-true, eqb-false, le-leb, eq-eqb, ne-eqb, not-true, not-false}
 use lib.Dec.{leb, ltb, eqb}
 use lib.ListN.{length}
-use Rattle.rules.specs.Range.{any, all, count}
+use Rattle.rules.specs.Range.{any, all}
 use Rattle.rules.specs.Card.{accountCount, accounts, firstCharge, chargeCount, IsCharge, chargeAccounts}
 use Rattle.rules.specs.Kind.{IsKind, kinds}
-use Rattle.rules.specs.Table.{hasEnd, tableLength, mostActions, highest, counter, parentOf, kindOf, endTime, hasRead, readTime, writeEntry, hasWritten, pendingWord, isLive, actions}
+use Rattle.rules.specs.Table.{hasEnd, tableLength, mostActions, highest, counter, lastTime, parentOf, kindOf, endTime, hasRead, readTime, writeEntry, hasWritten, pendingWord, isLive, actions}
 use Rattle.rules.specs.Queue.{queueLength, queue, isQueued}
-use Rattle.rules.specs.Sound.{isCommittedOf, isCounted, hasState, hasParentBelow, hasParentAlive, hasTimesIn, hasReadInTime, hasEndInTime, sharesEndTime, hasEndAlone, hasPendingWritten, isSoundAction, mayWait, queueNumbers, isSoundQueue, sound, IsGiven, MayWait, SoundQueue, Sound}
+use Rattle.rules.specs.Sound.{isBounded, hasState, hasParentAlive, hasTimesIn, hasReadInTime, hasEndInTime, sharesEndTime, hasEndAlone, hasPendingWritten, isSoundAction, mayWait, queueNumbers, isSoundQueue, sound, IsGiven, MayWait, SoundQueue, Sound, hasParentKnown, hasWayUp, endsUnderAnother}
+use Rattle.rules.specs.Walk.{climbs}
 use Rattle.rules.proofs.Laws.Tests.{and-left, and-right, and-both, or-cases, or-inl, or-inr, test, implied, implies, not-both, false-of-not-true}
-use Rattle.rules.proofs.Laws.Ranges.{Within, all-at, all-of, count-at-most}
+use Rattle.rules.proofs.Laws.Ranges.{Within, all-at, all-of}
 use Rattle.rules.proofs.Laws.Lists.{any-map, all-listed, listed-all}
 use Rattle.rules.proofs.Laws.Sets.{charge-within}
 use Rattle.rules.proofs.Laws.Kinds.{all-kinds, kinds-all}
 
--- the started actions are the numbers of the run that the scans go over
+-- the numbers that were given are those of the run that the scans go over
 given-within : (w : List ℕ) (n : ℕ) → IsGiven w n → Within 1 (highest w) n
 given-within w n h = omega arith
 
@@ -88,30 +89,43 @@ module _ (w : List ℕ) (n : ℕ) where
   unfolding EndInTime
   end-test f = implies (hasEnd w n) _ (λ p. and-both (le-leb _ _ (f p .0)) (le-leb _ _ (f p .1)))
 
+  WayUp : Type 0
+  WayUp = isLive w n ≡ true → climbs (parentOf w) mostActions n ≡ true
+
+  way-up-fact : hasWayUp w n ≡ true → WayUp
+  unfolding WayUp hasWayUp
+  way-up-fact = implied (isLive w n) _
+
+  way-up-test : WayUp → hasWayUp w n ≡ true
+  unfolding WayUp hasWayUp
+  way-up-test = implies (isLive w n) _
+
   EndAlone : Type 0
-  EndAlone = (m : ℕ) → (1 ≤ m) × (m < n) → hasEnd w n ≡ true → hasEnd w m ≡ true → parentOf w m ≡ parentOf w n → endTime w m ≡ endTime w n → ⊥
+  EndAlone =
+      (m : ℕ) → (1 ≤ m) × (m < n) → endsUnderAnother w n ≡ true → endsUnderAnother w m ≡ true →
+      parentOf w m ≡ parentOf w n → endTime w m ≡ endTime w n → ⊥
 
   alone-fact : hasEndAlone w n ≡ true → EndAlone
   unfolding EndAlone hasEndAlone
   alone-fact h m lower p q parents ends =
-      let single : not (sharesEndTime w n m) ≡ true = all-at _ 1 (n - 1) m (implied (hasEnd w n) _ h p) (omega arith) in
+      let single : not (sharesEndTime w n m) ≡ true = all-at _ 1 (n - 1) m (implied (endsUnderAnother w n) _ h p) (omega arith) in
       not-both (and-both (and-both q (eq-eqb _ _ parents)) (eq-eqb _ _ ends)) (not-true (sharesEndTime w n m) single)
 
   alone-test : EndAlone → hasEndAlone w n ≡ true
   unfolding EndAlone hasEndAlone
   alone-test f =
-      implies (hasEnd w n) _ (λ p. all-of _ 1 (n - 1) (λ m h. none-shares p m h))
+      implies (endsUnderAnother w n) _ (λ p. all-of _ 1 (n - 1) (λ m h. none-shares p m h))
     where
-      none-shares : hasEnd w n ≡ true → (m : ℕ) → Within 1 (n - 1) m → not (sharesEndTime w n m) ≡ true
+      none-shares : endsUnderAnother w n ≡ true → (m : ℕ) → Within 1 (n - 1) m → not (sharesEndTime w n m) ≡ true
       none-shares p m h =
           ap not
           (false-of-not-true (sharesEndTime w n m)
           (λ t.
-          let pair = and-left (hasEnd w m && eqb (parentOf w m) (parentOf w n)) _ t in
+          let pair = and-left (endsUnderAnother w m && eqb (parentOf w m) (parentOf w n)) _ t in
           f m (omega arith) p
-          (and-left (hasEnd w m) _ pair)
-          (eqb-true _ _ (and-right (hasEnd w m) _ pair))
-          (eqb-true _ _ (and-right (hasEnd w m && eqb (parentOf w m) (parentOf w n)) _ t))))
+          (and-left (endsUnderAnother w m) _ pair)
+          (eqb-true _ _ (and-right (endsUnderAnother w m) _ pair))
+          (eqb-true _ _ (and-right (endsUnderAnother w m && eqb (parentOf w m) (parentOf w n)) _ t))))
 
   PendingWritten : Type 0
   PendingWritten = (k : ℕ) → IsCharge k → hasWritten w n k ≡ false → pendingWord w n k ≡ 0
@@ -134,7 +148,8 @@ module _ (w : List ℕ) (n : ℕ) where
 -- the clauses of one action, as facts
 record SoundAction (w : List ℕ) (n : ℕ) : Type 0 where
   state : hasState w n ≡ true
-  below : hasParentBelow w n ≡ true
+  known : hasParentKnown w n ≡ true
+  up : hasWayUp w n ≡ true
   alive : hasParentAlive w n ≡ true
   reads : hasReadInTime w n ≡ true
   end : hasEndInTime w n ≡ true
@@ -146,44 +161,49 @@ module _ (w : List ℕ) (n : ℕ) where
   unfolding isSoundAction
   action-facts t =
       let a = hasState w n in
-      let b = hasParentBelow w n in
+      let b = hasParentKnown w n in
+      let u = hasWayUp w n in
       let c = hasParentAlive w n in
       let d = hasReadInTime w n in
       let e = hasEndInTime w n in
       let f = hasEndAlone w n in
       let g = hasPendingWritten w n in
-      let t6 = and-left (a && b && c && d && e && f) g t in
-      let t5 = and-left (a && b && c && d && e) f t6 in
-      let t4 = and-left (a && b && c && d) e t5 in
-      let t3 = and-left (a && b && c) d t4 in
-      let t2 = and-left (a && b) c t3 in
+      let t7 = and-left (a && b && u && c && d && e && f) g t in
+      let t6 = and-left (a && b && u && c && d && e) f t7 in
+      let t5 = and-left (a && b && u && c && d) e t6 in
+      let t4 = and-left (a && b && u && c) d t5 in
+      let t3 = and-left (a && b && u) c t4 in
+      let t2 = and-left (a && b) u t3 in
       record {
         state = and-left a b t2;
-        below = and-right a b t2;
-        alive = and-right (a && b) c t3;
-        reads = and-right (a && b && c) d t4;
-        end = and-right (a && b && c && d) e t5;
-        alone = and-right (a && b && c && d && e) f t6;
-        pendings = and-right (a && b && c && d && e && f) g t;
+        known = and-right a b t2;
+        up = and-right (a && b) u t3;
+        alive = and-right (a && b && u) c t4;
+        reads = and-right (a && b && u && c) d t5;
+        end = and-right (a && b && u && c && d) e t6;
+        alone = and-right (a && b && u && c && d && e) f t7;
+        pendings = and-right (a && b && u && c && d && e && f) g t;
       }
 
   action-tested : SoundAction w n → isSoundAction w n ≡ true
   unfolding isSoundAction
   action-tested s =
       and-both
-      (and-both (and-both (and-both (and-both (and-both (s .state) (s .below)) (s .alive)) (s .reads)) (s .end)) (s .alone))
+      (and-both
+      (and-both (and-both (and-both (and-both (and-both (s .state) (s .known)) (s .up)) (s .alive)) (s .reads)) (s .end))
+      (s .alone))
       (s .pendings)
 
 -- ---- the counters
 
 module _ (w : List ℕ) (h : ℕ) where
-  counted-fact : isCounted w h ≡ true → counter w h ≤ count (isCommittedOf w h) (actions w)
-  unfolding isCounted
-  counted-fact t = leb-true _ _ t
+  bounded-fact : isBounded w h ≡ true → counter w h + queueLength w h ≤ lastTime
+  unfolding isBounded
+  bounded-fact t = leb-true _ _ t
 
-  counted-test : counter w h ≤ count (isCommittedOf w h) (actions w) → isCounted w h ≡ true
-  unfolding isCounted
-  counted-test few = le-leb _ _ few
+  bounded-test : counter w h + queueLength w h ≤ lastTime → isBounded w h ≡ true
+  unfolding isBounded
+  bounded-test few = le-leb _ _ few
 
 -- ---- a queue
 
@@ -250,52 +270,63 @@ by-order P m n f g h =
 
 module _ (w : List ℕ) where
   pub facts : sound w ≡ true → Sound w
-  unfolding sound ParentAlive ReadsInTime EndInTime EndAlone PendingWritten
+  unfolding sound WayUp ParentAlive ReadsInTime EndInTime EndAlone PendingWritten
   facts t =
       let long = eqb (length w) tableLength in
       let few = leb (highest w) mostActions in
-      let counted = all (isCounted w) kinds in
+      let bounded = all (isBounded w) kinds in
       let fold = all (isSoundAction w) (actions w) in
-      let t4 = and-left (long && few && counted && fold) (all (isSoundQueue w) kinds) t in
-      let t3 = and-left (long && few && counted) fold t4 in
-      let t2 = and-left (long && few) counted t3 in
+      let t4 = and-left (long && few && bounded && fold) (all (isSoundQueue w) kinds) t in
+      let t3 = and-left (long && few && bounded) fold t4 in
+      let t2 = and-left (long && few) bounded t3 in
       let of : (n : ℕ) → IsGiven w n → SoundAction w n =
-      λ n h. action-facts w n (all-given w (isSoundAction w) (and-right (long && few && counted) fold t4) n h) in
+      λ n h. action-facts w n (all-given w (isSoundAction w) (and-right (long && few && bounded) fold t4) n h) in
       record {
         long = eqb-true _ _ (and-left long few t2);
         few = leb-true _ _ (and-right long few t2);
-        counted = λ h known. counted-fact w h (all-kinds (isCounted w) (and-right (long && few) counted t3) h known);
+        bounded = λ h known. bounded-fact w h (all-kinds (isBounded w) (and-right (long && few) bounded t3) h known);
         states = λ n h. of n h .state;
-        below = λ n h. ltb-true _ _ (of n h .below);
+        known = λ n h. leb-true _ _ (of n h .known);
+        climb = λ n h. way-up-fact w n (of n h .up);
         alive = λ n h. alive-fact w n (of n h .alive);
         reads = λ h n k known begun p. reads-fact w n (of n begun .reads) p h known k;
         ends = λ n h. end-fact w n (of n h .end);
         alone =
-            λ n m hn hm p q parents ends.
+            λ n m hn hm p q other other′ parents ends.
+            let ended = and-both p (ap not (ne-eqb _ _ other)) in
+            let ended′ = and-both q (ap not (ne-eqb _ _ other′)) in
             by-order (m ≡ n) m n
-            (λ lt. absurd (alone-fact w n (of n hn .alone) m (hm .0, lt) p q parents ends))
-            (λ gt. absurd (alone-fact w m (of m hm .alone) n (hn .0, gt) q p (sym parents) (sym ends)))
+            (λ lt. absurd (alone-fact w n (of n hn .alone) m (hm .0, lt) ended ended′ parents ends))
+            (λ gt. absurd (alone-fact w m (of m hm .alone) n (hn .0, gt) ended′ ended (sym parents) (sym ends)))
             (λ e. e);
         pendings = λ n k h. pending-fact w n (of n h .pendings) k;
         lines =
             λ h known.
             queue-facts w h
-            (all-kinds (isSoundQueue w) (and-right (long && few && counted && fold) (all (isSoundQueue w) kinds) t) h known);
+            (all-kinds (isSoundQueue w) (and-right (long && few && bounded && fold) (all (isSoundQueue w) kinds) t) h known);
       }
 
   tested-action : Sound w → (n : ℕ) → IsGiven w n → SoundAction w n
-  unfolding ParentAlive ReadsInTime EndInTime EndAlone PendingWritten
+  unfolding WayUp ParentAlive ReadsInTime EndInTime EndAlone PendingWritten
   tested-action s n h =
       record {
         state = s .states n h;
-        below = lt-ltb _ _ (s .below n h);
+        known = le-leb _ _ (s .known n h);
+        up = way-up-test w n (s .climb n h);
         alive = alive-test w n (s .alive n h);
         reads = reads-test w n (λ p x known k. s .reads x n k known h p);
         end = end-test w n (s .ends n h);
         alone =
-            alone-test w n (λ m lower p q parents ends. let same = s .alone n m h (omega arith) p q parents ends in omega arith);
+            alone-test w n
+            (λ m lower p q parents ends.
+            let same =
+            s .alone n m h (omega arith) (and-left (hasEnd w n) _ p) (and-left (hasEnd w m) _ q) (other n p) (other m q) parents ends in
+            omega arith);
         pendings = pending-test w n (λ k. s .pendings n k h);
       }
+    where
+      other : (m : ℕ) → endsUnderAnother w m ≡ true → parentOf w m ≢ m
+      other m under = eqb-false _ _ (not-true _ (and-right (hasEnd w m) _ under))
 
   pub tested : Sound w → sound w ≡ true
   unfolding sound
@@ -303,12 +334,11 @@ module _ (w : List ℕ) where
       and-both
       (and-both
       (and-both (and-both (eq-eqb _ _ (s .long)) (le-leb _ _ (s .few)))
-      (kinds-all (isCounted w) (λ h known. counted-test w h (s .counted h known))))
+      (kinds-all (isBounded w) (λ h known. bounded-test w h (s .bounded h known))))
       (given-all w _ (λ n h. action-tested w n (tested-action s n h))))
       (kinds-all (isSoundQueue w) (λ h known. queue-tested w h (s .lines h known)))
 
--- ---- RULES 7.3: no counter is higher than there can be actions
+-- ---- RULES 7.3: no counter is above the last time
 
-pub counter-at-most : (w : List ℕ) → Sound w → (h : ℕ) → IsKind h → counter w h ≤ mostActions
-unfolding actions
-counter-at-most w s h known = omega (arith, s .counted h known, count-at-most (isCommittedOf w h) 1 (highest w), s .few)
+pub counter-at-most : (w : List ℕ) → Sound w → (h : ℕ) → IsKind h → counter w h ≤ lastTime
+counter-at-most w s h known = omega (arith, s .bounded h known)

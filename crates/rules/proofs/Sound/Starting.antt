@@ -1,326 +1,288 @@
--- A start's table: the next row is filled whole and the highest number goes up by one; the table stays sound. Assumes nothing.
-use Prim.Native.Nat.{ℕ, _+_, _≤_, _<_}
+-- A start keeps the table sound: whoever is live keeps its row, the new action has nothing yet, and of a finished action that was
+-- the earlier holder's child the parent alone has changed. Assumes nothing.
+use Prim.Native.Nat.{ℕ, _+_, _-_, _≤_, _<_}
 use native.Mathlib.Omega.{arith}
 use native.Mathlib.Decide.{ℕ-discrete}
-use native.Mathlib.Numerals.{add-one}
 use mathlib.Core.Path.{_≡_, refl, sym, ap, _∙_}
 use mathlib.Core.Logic.{_⊎_, inl, inr, ⊎-elim, _≢_}
-use mathlib.Core.Bool.{true, false}
+use mathlib.Core.Bool.{Bool, true, false, cond}
 use mathlib.Core.List.{List}
-use borrow.Author.Tests.{eq-eqb, ne-eqb}
+use borrow.Author.Tests.{eqb-true, eq-eqb, ne-eqb}
 use lib.Dec.{eqb}
-use lib.ListN.{length}
-use Rattle.rules.specs.Range.{count}
-use Rattle.rules.specs.Card.{accountCount, IsCharge}
-use Rattle.rules.specs.Kind.{IsKind, kindUnder}
-use Rattle.rules.specs.Table.{hasEnd, entryFields, subTimeFields, subTimeField, subTime, width, tableLength, mostActions, live, word, highestField, highest, withHighest, counterField, counter, parentField, parentOf, kindOf, withParent, stateField, stateOf, withState, endField, endTime, withEndTime, readField, readEntry, writeField, writeEntry, hasRead, readTime, hasWritten, pendingField, pendingWord, ownAddsField, ownAddsWord, withoutAdds, isLive, isCommitted, actions, isLiveChildOf, hasLiveChild}
-use Rattle.rules.specs.Queue.{queueLengthField, isQueued, isWaiting}
-use Rattle.rules.specs.Sound.{isCommittedOf, queueNumbers, IsGiven, MayWait, SoundQueue, Sound}
-use Rattle.rules.specs.Step.{startTable}
-use Rattle.rules.proofs.Laws.Walking.{parent-known}
-use Rattle.rules.proofs.Laws.Tests.{and-left, and-fails-left, not-both}
-use Rattle.rules.proofs.Laws.Ranges.{not-any, not-any-at, count-agree, count-snoc}
+use Rattle.rules.specs.Card.{accountCount}
+use Rattle.rules.specs.Kind.{IsKind, subKind, kindUnder}
+use Rattle.rules.specs.Table.{hasEnd, subTimeField, width, mostActions, word, highest, counter, parentField, parentOf, kindOf, stateField, stateOf, endField, endTime, readField, hasRead, readTime, writeField, hasWritten, pendingField, pendingWord, isLive, isCommitted, actions, isChildOf, isLiveChildOf, hasLiveChild}
+use Rattle.rules.specs.Walk.{climbs}
+use Rattle.rules.specs.Queue.{isQueued, isWaiting}
+use Rattle.rules.specs.Sound.{queueNumbers, IsGiven, StoreOrLive, MayWait, SoundQueue, Sound}
+use Rattle.rules.specs.Step.{giveTable}
+use Rattle.rules.proofs.Laws.Climbing.{climbs-child, climbs-agree}
+use Rattle.rules.proofs.Laws.Walking.{parent-store-or-live}
+use Rattle.rules.proofs.Laws.Freeing.{Givable}
+use Rattle.rules.proofs.Laws.Tests.{and-left, and-false, and-fails-left, not-both, test, cond-holds}
+use Rattle.rules.proofs.Laws.Ranges.{not-any, not-any-at}
 use Rattle.rules.proofs.Laws.Kinds.{kind-known, unqueued-in}
-use Rattle.rules.proofs.Laws.Queue.{SameLine, queue-kept}
-use Rattle.rules.proofs.Laws.Words.{withWord-length, word-same, word-other-row, word-other-field}
-use Rattle.rules.proofs.Laws.Sets.{withSets-length, withSets-other-row, withSets-other-field, withSets-read, withSets-time, withSets-write, withSets-pending, withSets-behind, withoutAdds-length, withoutAdds-other-row, withoutAdds-other-field, withoutAdds-behind, withoutAdds-same}
-use Rattle.rules.proofs.Sound.TableChanges.{writes-agree, live-uncommitted}
+use Rattle.rules.proofs.Laws.Queue.{queue-kept}
+use Rattle.rules.proofs.Sound.TableChanges.{bounds-stay, writes-agree, live-uncommitted}
+use Rattle.rules.proofs.Sound.Depths.{one-move-left}
+use Rattle.rules.proofs.Sound.Giving.{give-length, give-keeps-field, give-keeps-row, give-counter, give-line, give-highest, give-parent-other, give-parent, give-state, give-read, give-pending}
 
-module _ (w : List ℕ) (p : ℕ) where
-  -- the number that the new action gets
-  abbrev pub new : ℕ
-  new = highest w + 1
+-- the children of any action are of one kind
+action-kind : (q : ℕ) → 1 ≤ q → kindUnder q ≡ subKind
+unfolding kindUnder
+action-kind q one = rw (ne-eqb q 0 (λ z. omega arith))
 
-  -- the table with the head, then the parent, then the state, then the end time put in, and the own adds; the sets and sums
-  -- come last
-  abbrev headed : List ℕ
-  headed = withHighest w new
+-- ---- who is who in the table after a start
 
-  abbrev parented : List ℕ
-  parented = withParent headed new p
+module _ (w : List ℕ) (n p : ℕ) (s : Sound w) (g : Givable w n) where
+  abbrev v : List ℕ
+  v = giveTable w n p
 
-  abbrev stated : List ℕ
-  stated = withState parented new live
+  -- an action of the table is another than the new one, and was there before, or it is the new one
+  abbrev IsOld : ℕ → Type 0
+  IsOld m = IsGiven w m × (m ≢ n)
 
-  abbrev timed : List ℕ
-  timed = withEndTime stated new 0
+  pub start-highest : (highest w ≤ highest v) × (n ≤ highest v) × (highest v ≤ highest w + 1)
+  start-highest = omega (arith, give-highest w n p (s .long) (g .first) (g .few), g .near)
 
-  abbrev filled : List ℕ
-  filled = withoutAdds timed new
-
-  filled-length : length filled ≡ length w
-  filled-length =
-      withoutAdds-length timed new ∙ withWord-length stated new endField 0 ∙ withWord-length parented new stateField live ∙ withWord-length headed new parentField p ∙ withWord-length w 0 highestField new
-
-  pub start-length : length (startTable w p) ≡ length w
-  unfolding startTable
-  start-length = withSets-length filled new _ _ _ _ ∙ filled-length
-
-  -- a row that is neither the head nor the new action's
-  pub start-keeps-row : (m g : ℕ) → g < width → 1 ≤ m → m ≢ new → word (startTable w p) m g ≡ word w m g
-  unfolding startTable
-  start-keeps-row m g h one ne =
-      withSets-other-row filled new _ _ _ _ m g h ne
-      ∙ withoutAdds-other-row timed new m g h ne
-      ∙ word-other-row stated new m endField g 0 (omega arith) h ne
-      ∙ word-other-row parented new m stateField g live (omega arith) h ne
-      ∙ word-other-row headed new m parentField g p (omega arith) h ne
-      ∙ word-other-row w 0 m highestField g new (omega arith) h (λ z. omega arith)
-
-  -- the head
-  head-from : (g : ℕ) → g < width → word (startTable w p) 0 g ≡ word headed 0 g
-  unfolding startTable
-  head-from g h =
-      withSets-other-row filled new _ _ _ _ 0 g h (λ z. omega arith)
-      ∙ withoutAdds-other-row timed new 0 g h (λ z. omega arith)
-      ∙ word-other-row stated new 0 endField g 0 (omega arith) h (λ z. omega arith)
-      ∙ word-other-row parented new 0 stateField g live (omega arith) h (λ z. omega arith)
-      ∙ word-other-row headed new 0 parentField g p (omega arith) h (λ z. omega arith)
-
-  start-head : (g : ℕ) → g < width → g ≢ highestField → word (startTable w p) 0 g ≡ word w 0 g
-  start-head g h ne = head-from g h ∙ word-other-field w 0 highestField g new ne
-
-  pub start-counter : (h : ℕ) → IsKind h → counter (startTable w p) h ≡ counter w h
-  start-counter h known = start-head (counterField h) (omega arith) (λ z. omega arith)
-
-  -- the queues' words stay, also those in the new action's row
-  start-behind : (m g : ℕ) → 1 ≤ m → entryFields ≤ g → g < subTimeFields → word (startTable w p) m g ≡ word w m g
-  unfolding startTable
-  start-behind m g one far near = go (ℕ-discrete m new)
+  old-or-new : (m : ℕ) → IsGiven v m → IsOld m ⊎ (m ≡ n)
+  old-or-new m h = go (ℕ-discrete m n)
     where
-      go : Dec (m ≡ new) → word (startTable w p) m g ≡ word w m g
-      go (no ne) = start-keeps-row m g (omega arith) one ne
-      go (yes e) =
-          rw e
-          (withSets-behind filled new _ _ _ _ g (omega arith) near
-          ∙ withoutAdds-behind timed new g far
-          ∙ word-other-field stated new endField g 0 (λ z. omega arith)
-          ∙ word-other-field parented new stateField g live (λ z. omega arith)
-          ∙ word-other-field headed new parentField g p (λ z. omega arith)
-          ∙ word-other-row w 0 new highestField g new (omega arith) (omega arith) (λ z. omega arith))
+      go : Dec (m ≡ n) → IsOld m ⊎ (m ≡ n)
+      go (yes e) = inr e
+      go (no ne) = inl (omega (arith, give-highest w n p (s .long) (g .first) (g .few), g .near), ne)
 
-  pub start-line : (h : ℕ) → IsKind h → SameLine w (startTable w p) h
-  start-line h known =
-      record {
-        sameLength = start-head (queueLengthField h) (omega arith) (λ z. omega arith);
-        sameEntries = λ i g one first last. start-behind i g one (omega arith) (omega arith);
-      }
+  -- a test that holds of every old action and of the new one holds of every action
+  pub by-age : (P : ℕ → Type 0) → ((m : ℕ) → IsOld m → P m) → P n → (m : ℕ) → IsGiven v m → P m
+  by-age P old fresh m h = ⊎-elim (old m) (λ e. rw e fresh) (old-or-new m h)
 
-  module _ (long : length w ≡ tableLength) (room : highest w < mostActions) where
-    pub start-highest : highest (startTable w p) ≡ highest w + 1
-    start-highest = head-from highestField (omega arith) ∙ word-same w 0 highestField new long (omega arith) (omega arith)
+  -- every word of an old action but the parent
+  pub old-field : (m f : ℕ) → IsOld m → f < width → f ≢ parentField → word v m f ≡ word w m f
+  old-field m f (h, other) inside ne = give-keeps-field w n p m f inside ne (h .0) other
 
-    headed-long : length headed ≡ tableLength
-    headed-long = withWord-length w 0 highestField new ∙ long
+  old-state : (m : ℕ) → IsOld m → stateOf v m ≡ stateOf w m
+  old-state m old = old-field m stateField old (omega arith) (λ z. omega arith)
 
-    parented-long : length parented ≡ tableLength
-    parented-long = withWord-length headed new parentField p ∙ headed-long
+  old-end : (m : ℕ) → IsOld m → hasEnd v m ≡ hasEnd w m
+  old-end m old =
+      rw (old-state m old, writes-agree w v m (λ k hk. old-field m (writeField k) old (omega arith) (λ z. omega arith))) refl
 
-    stated-long : length stated ≡ tableLength
-    stated-long = withWord-length parented new stateField live ∙ parented-long
+  -- whoever is live had another number and has another parent
+  pub live-old : (m : ℕ) → IsGiven w m → isLive w m ≡ true → IsOld m
+  live-old m h l = (h, λ same. not-both l (rw same (g .idle (rw same at (h .1)))))
 
-    filled-long : length filled ≡ tableLength
-    filled-long = filled-length ∙ long
+  live-parent-other : (m : ℕ) → IsGiven w m → isLive w m ≡ true → parentOf w m ≢ n
+  live-parent-other m h l same =
+      let above = parent-store-or-live s m h l in
+      not-both (rw same at (above .1 (rw same (g .first)))) (g .idle (rw same at (above .0)))
 
-    -- the new action's row
-    pub start-parent : parentOf (startTable w p) new ≡ p
-    unfolding startTable
-    start-parent =
-        withSets-other-field filled new _ _ _ _ parentField (omega arith)
-        ∙ withoutAdds-other-field timed new parentField (omega arith)
-        ∙ word-other-field stated new endField parentField 0 (λ z. omega arith)
-        ∙ word-other-field parented new stateField parentField live (λ z. omega arith)
-        ∙ word-same headed new parentField p headed-long (omega arith) (omega arith)
+  pub live-row : (m f : ℕ) → IsGiven w m → isLive w m ≡ true → f < width → word v m f ≡ word w m f
+  live-row m f h l inside = give-keeps-row w n p m f inside (h .0) (live-old m h l .1) (live-parent-other m h l)
 
-    pub start-state : stateOf (startTable w p) new ≡ live
-    unfolding startTable
-    start-state =
-        withSets-other-field filled new _ _ _ _ stateField (omega arith)
-        ∙ withoutAdds-other-field timed new stateField (omega arith)
-        ∙ word-other-field stated new endField stateField 0 (λ z. omega arith)
-        ∙ word-same parented new stateField live parented-long (omega arith) (omega arith)
+  -- an old action's parent: a child of the earlier holder is its own
+  pub old-parent : (m : ℕ) → IsOld m → parentOf v m ≡ cond (isChildOf w n m) m (parentOf w m)
+  old-parent m (h, other) = give-parent-other w n p (s .long) (g .first) (g .few) (s .few) m h other
 
-    pub start-end : endTime (startTable w p) new ≡ 0
-    unfolding startTable
-    start-end =
-        withSets-other-field filled new _ _ _ _ endField (omega arith)
-        ∙ withoutAdds-other-field timed new endField (omega arith)
-        ∙ word-same stated new endField 0 stated-long (omega arith) (omega arith)
+  -- who isn't its own parent has the parent that it had
+  pub old-parent-kept : (m : ℕ) → IsOld m → parentOf v m ≢ m → parentOf v m ≡ parentOf w m
+  old-parent-kept m old other = go (isChildOf w n m) (old-parent m old)
+    where
+      go : (b : Bool) → parentOf v m ≡ cond b m (parentOf w m) → parentOf v m ≡ parentOf w m
+      go true own = absurd (other own)
+      go false kept = kept
 
-    pub start-read : (k : ℕ) → k < accountCount → readEntry (startTable w p) new k ≡ 0
-    unfolding startTable
-    start-read = withSets-read filled new _ _ _ _ filled-long (omega arith)
+  pub old-row : (m f : ℕ) → IsOld m → parentOf v m ≢ m → f < width → word v m f ≡ word w m f
+  old-row m f old other inside = go (ℕ-discrete f parentField)
+    where
+      go : Dec (f ≡ parentField) → word v m f ≡ word w m f
+      go (yes e) = rw e (old-parent-kept m old other)
+      go (no ne) = old-field m f old inside ne
 
-    pub start-time : (k : ℕ) → k < accountCount → subTime (startTable w p) new k ≡ 0
-    unfolding startTable
-    start-time = withSets-time filled new _ _ _ _ filled-long (omega arith)
+  old-kind : (m : ℕ) → IsOld m → kindOf v m ≡ kindOf w m
+  old-kind m old = ⊎-elim orphan kept (test (isChildOf w n m))
+    where
+      orphan : isChildOf w n m ≡ true → kindOf v m ≡ kindOf w m
+      orphan is =
+          ap kindUnder (old-parent m old ∙ rw is refl) ∙ action-kind m (old .0 .0)
+          ∙ sym (ap kindUnder (eqb-true _ _ is) ∙ action-kind n (g .first))
 
-    pub start-write : (k : ℕ) → k < accountCount → writeEntry (startTable w p) new k ≡ 0
-    unfolding startTable
-    start-write = withSets-write filled new _ _ _ _ filled-long (omega arith)
+      kept : isChildOf w n m ≡ false → kindOf v m ≡ kindOf w m
+      kept is = ap kindUnder (old-parent m old ∙ rw is refl)
 
-    pub start-pending : (k : ℕ) → IsCharge k → pendingWord (startTable w p) new k ≡ 0
-    unfolding startTable
-    start-pending = withSets-pending filled new _ _ _ _ filled-long (omega arith)
+  new-live : isLive v n ≡ true
+  new-live = eq-eqb _ _ (give-state w n p (s .long) (g .first) (g .few))
 
-    pub start-own-adds : (k : ℕ) → IsCharge k → ownAddsWord (startTable w p) new k ≡ 0
-    unfolding startTable
-    start-own-adds k charge =
-        withSets-behind filled new _ _ _ _ (ownAddsField k) (omega arith) (omega arith)
-        ∙ withoutAdds-same timed new (withWord-length stated new endField 0 ∙ stated-long) (omega arith) k charge
+  -- the new action is live, so it has no end
+  new-no-end : hasEnd v n ≡ true → ⊥
+  new-no-end e = live-uncommitted v n new-live (and-left (isCommitted v n) _ e)
+
+  new-parent : parentOf v n ≡ p
+  new-parent = give-parent w n p (s .long) (g .first) (g .few)
 
 -- ---- the table stays sound
 
 module _
-    (w : List ℕ) (p : ℕ) (s : Sound w) (room : highest w < mostActions) (known : p ≤ highest w) (alive : 1 ≤ p → isLive w p ≡ true)
+    (w : List ℕ) (n p : ℕ) (s : Sound w) (g : Givable w n) (known : p ≤ highest w) (alive : 1 ≤ p → isLive w p ≡ true)
     (unqueued : isWaiting w p ≡ false) where
-  -- a started action of the new table is one of the old, or the new one
-  old-or-new : (m : ℕ) → IsGiven (startTable w p) m → IsGiven w m ⊎ (m ≡ new w p)
-  old-or-new m h = go (ℕ-discrete m (highest w + 1))
+  abbrev after : List ℕ
+  after = giveTable w n p
+
+  -- a parent that was the store or live still is
+  still-held : (q : ℕ) → StoreOrLive w q → (q ≡ 0) ⊎ (isLive after q ≡ true)
+  still-held q (few, lives) = go (ℕ-discrete q 0)
     where
-      go : Dec (m ≡ highest w + 1) → IsGiven w m ⊎ (m ≡ new w p)
-      go (yes e) = inr e
-      go (no ne) = inl (omega (arith, start-highest w p (s .long) room))
-
-  -- what an old action's row holds
-  pub old-row : (m g : ℕ) → IsGiven w m → g < width → word (startTable w p) m g ≡ word w m g
-  old-row m g h hg = start-keeps-row w p m g hg (h .0) (λ z. omega arith)
-
-  old-end : (m : ℕ) → IsGiven w m → hasEnd (startTable w p) m ≡ hasEnd w m
-  old-end m h =
-      rw (old-row m stateField h (omega arith), writes-agree w (startTable w p) m (λ k hk. old-row m (writeField k) h (omega arith))) refl
-
-  -- the new action is live, so it has no end
-  new-no-end : hasEnd (startTable w p) (new w p) ≡ true → ⊥
-  new-no-end e =
-      live-uncommitted (startTable w p) (new w p) (eq-eqb _ _ (start-state w p (s .long) room))
-      (and-left (isCommitted (startTable w p) (new w p)) _ e)
-
-  -- a test that holds of every old action and of the new one holds of every action
-  pub by-age :
-      (P : ℕ → Type 0) → ((m : ℕ) → IsGiven w m → P m) → P (new w p) → (m : ℕ) → IsGiven (startTable w p) m → P m
-  by-age P old fresh m h = ⊎-elim (old m) (λ e. rw e fresh) (old-or-new m h)
-
-  no-fewer-committed :
-      (h : ℕ) → IsKind h → counter w h ≤ count (isCommittedOf (startTable w p) h) (actions (startTable w p))
-  unfolding actions
-  no-fewer-committed h kind =
-      rw (
-        start-highest w p (s .long) room,
-        add-one (highest w),
-        count-snoc (isCommittedOf (startTable w p) h) 1 (highest w),
-        count-agree (isCommittedOf (startTable w p) h) (isCommittedOf w h) 1 (highest w)
-            (λ m r.
-            rw (old-row m stateField (omega arith) (omega arith), old-row m parentField (omega arith) (omega arith)) refl),
-      )
-      (omega (arith, s .counted h kind))
-
-  -- a parent that was 0 or live still is
-  parent-alive : (q : ℕ) → q ≤ highest w → (q ≡ 0) ⊎ (isLive w q ≡ true) → (q ≡ 0) ⊎ (isLive (startTable w p) q ≡ true)
-  parent-alive q known (inl e) = inl e
-  parent-alive q known (inr l) = go (ℕ-discrete q 0)
-    where
-      go : Dec (q ≡ 0) → (q ≡ 0) ⊎ (isLive (startTable w p) q ≡ true)
+      go : Dec (q ≡ 0) → (q ≡ 0) ⊎ (isLive after q ≡ true)
       go (yes e) = inl e
-      go (no ne) = inr (rw (old-row q stateField (omega arith) (omega arith)) l)
+      go (no ne) =
+          let h : IsGiven w q = (omega arith, few) in
+          let l = lives (omega arith) in
+          inr (rw (live-row w n p s g q stateField h l (omega arith)) l)
 
-  no-read : (k : ℕ) → k < accountCount → hasRead (startTable w p) (new w p) k ≡ true → ⊥
-  no-read k hk r = not-both r (rw (start-read w p (s .long) room k hk))
+  -- on the way up from the store or a live action nothing changes
+  old-climbs : (moves m : ℕ) → StoreOrLive w m → climbs (parentOf w) moves m ≡ true → climbs (parentOf after) moves m ≡ true
+  old-climbs =
+      climbs-agree (parentOf w) (parentOf after) (StoreOrLive w)
+      (λ m ne from.
+      let h : IsGiven w m = (omega arith, from .0) in
+      let l = from .1 (omega arith) in
+      (live-row w n p s g m parentField h l (omega arith), parent-store-or-live s m h l))
+
+  -- its number wasn't live, so the new action's parent lies one move less deep than any action may
+  new-climbs : climbs (parentOf after) mostActions n ≡ true
+  new-climbs =
+      let under = one-move-left w s n (g .first) (g .few) (λ begun. g .idle (begun .1)) p (known, alive) in
+      climbs-child (parentOf after) (mostActions - 1) n
+      (rw (new-parent w n p s g) (old-climbs (mostActions - 1) p (known, alive) under))
+
+  no-read : (k : ℕ) → k < accountCount → hasRead after n k ≡ true → ⊥
+  no-read k hk r = not-both r (rw (give-read w n p (s .long) (g .first) (g .few) k hk))
 
   -- whoever waits is no parent of the new action, so it gets no live child
-  waiting-childless : (h : ℕ) → IsKind h → (n : ℕ) → isQueued w h n ≡ true → hasLiveChild (startTable w p) n ≡ false
+  waiting-childless : (h : ℕ) → IsKind h → (x : ℕ) → isQueued w h x ≡ true → hasLiveChild after x ≡ false
   unfolding hasLiveChild actions
-  waiting-childless h kind n queued =
-      not-any (isLiveChildOf (startTable w p) n) 1 (highest (startTable w p))
-      (λ m r.
-      by-age (λ x. isLiveChildOf (startTable w p) n x ≡ false)
-      (λ x begun.
-      rw (old-row x parentField begun (omega arith), old-row x stateField begun (omega arith))
-      (not-any-at (isLiveChildOf w n) 1 (highest w) x (s .lines h kind .waits n queued .childless) (omega arith)))
-      (rw (start-parent w p (s .long) room)
-      (and-fails-left (eqb p n) _ .1 (λ _. ne-eqb p n (λ same. not-both queued (rw (← same) (unqueued-in w p unqueued h kind))))))
-      m (omega arith))
+  waiting-childless h kind x queued =
+      not-any (isLiveChildOf after x) 1 (highest after)
+      (λ m r. by-age w n p s g (λ y. isLiveChildOf after x y ≡ false) old new m (omega arith))
+    where
+      old : (m : ℕ) → IsGiven w m × (m ≢ n) → isLiveChildOf after x m ≡ false
+      old m is = ⊎-elim living gone (test (isLive w m))
+        where
+          living : isLive w m ≡ true → isLiveChildOf after x m ≡ false
+          living l =
+              rw (live-row w n p s g m parentField (is .0) l (omega arith), live-row w n p s g m stateField (is .0) l (omega arith))
+              (not-any-at (isLiveChildOf w x) 1 (highest w) m (s .lines h kind .waits x queued .childless) (omega (arith, is .0)))
 
-  waits-on : (h : ℕ) → IsKind h → (n : ℕ) → isQueued w h n ≡ true → MayWait (startTable w p) h n
-  waits-on h kind n queued =
-      let may = s .lines h kind .waits n queued in
+          gone : isLive w m ≡ false → isLiveChildOf after x m ≡ false
+          gone l = rw (old-state w n p s g m is, l) (and-false (isChildOf after x m))
+
+      new : isLiveChildOf after x n ≡ false
+      new =
+          rw (new-parent w n p s g)
+          (and-fails-left (eqb p x) _ .1 (λ _. ne-eqb p x (λ same. not-both queued (rw (← same) (unqueued-in w p unqueued h kind)))))
+
+  waits-on : (h : ℕ) → IsKind h → (x : ℕ) → isQueued w h x ≡ true → MayWait after h x
+  waits-on h kind x queued =
+      let may = s .lines h kind .waits x queued in
       record {
-        begun = omega (arith, may .begun, start-highest w p (s .long) room);
-        alive = rw (old-row n stateField (may .begun) (omega arith)) (may .alive);
-        kind = ap kindUnder (old-row n parentField (may .begun) (omega arith)) ∙ may .kind;
-        childless = waiting-childless h kind n queued;
+        begun = omega (arith, may .begun, start-highest w n p s g);
+        alive = rw (live-row w n p s g x stateField (may .begun) (may .alive) (omega arith)) (may .alive);
+        kind = ap kindUnder (live-row w n p s g x parentField (may .begun) (may .alive) (omega arith)) ∙ may .kind;
+        childless = waiting-childless h kind x queued;
       }
 
-  lines-on : (h : ℕ) → IsKind h → SoundQueue (startTable w p) h
+  lines-on : (h : ℕ) → IsKind h → SoundQueue after h
   unfolding isQueued queueNumbers
   lines-on h kind =
-      let q = queue-kept w (startTable w p) h kind (start-line w p h kind) in
+      let line = give-line w n p h (g .first) kind in
+      let q = queue-kept w after h kind line in
       record {
-        short = rw (start-line w p h kind .sameLength) (s .lines h kind .short);
-        waits = λ n queued. waits-on h kind n (rw q at queued);
+        short = rw (line .sameLength) (s .lines h kind .short);
+        waits = λ x queued. waits-on h kind x (rw q at queued);
         once = rw q (s .lines h kind .once);
       }
 
-  pub start-keeps-sound : Sound (startTable w p)
+  -- who isn't its own parent has kept its parent, and so has its neighbours
+  ends-alone :
+      (a b : ℕ) → IsGiven after a → IsGiven after b → hasEnd after a ≡ true → hasEnd after b ≡ true →
+      parentOf after a ≢ a → parentOf after b ≢ b → parentOf after b ≡ parentOf after a → endTime after b ≡ endTime after a → b ≡ a
+  ends-alone a b ha hb ea eb other other′ parents ends =
+      ⊎-elim
+      (λ oa. ⊎-elim
+      (λ ob.
+      let kept = old-parent-kept w n p s g a oa other in
+      let kept′ = old-parent-kept w n p s g b ob other′ in
+      s .alone a b (oa .0) (ob .0) (rw (old-end w n p s g a oa) at ea) (rw (old-end w n p s g b ob) at eb)
+      (rw kept at other) (rw kept′ at other′) (sym kept′ ∙ parents ∙ kept)
+      (sym (old-field w n p s g b endField ob (omega arith) (λ z. omega arith)) ∙ ends
+      ∙ old-field w n p s g a endField oa (omega arith) (λ z. omega arith)))
+      (λ e. absurd (new-no-end w n p s g (rw e at eb))) (old-or-new w n p s g b hb))
+      (λ e. absurd (new-no-end w n p s g (rw e at ea))) (old-or-new w n p s g a ha)
+
+  pub start-keeps-sound : Sound after
   start-keeps-sound =
       record {
-        long = start-length w p ∙ s .long;
-        few = rw (start-highest w p (s .long) room) (omega arith);
+        long = give-length w n p ∙ s .long;
+        few = omega (arith, give-highest w n p (s .long) (g .first) (g .few), s .few, g .few);
         states =
-            by-age _ (λ m h. rw (old-row m stateField h (omega arith)) (s .states m h)) (rw (start-state w p (s .long) room) refl);
-        counted = λ h kind. rw (start-counter w p h kind) (no-fewer-committed h kind);
-        below =
-            by-age _ (λ m h. rw (old-row m parentField h (omega arith)) (s .below m h)) (rw (start-parent w p (s .long) room) (omega arith));
+            by-age w n p s g _
+            (λ m old. rw (old-state w n p s g m old) (s .states m (old .0)))
+            (rw (give-state w n p (s .long) (g .first) (g .few)) refl);
+        bounded =
+            bounds-stay s after (λ h. give-counter w n p h (g .first)) (λ h kind. give-line w n p h (g .first) kind .sameLength);
+        known = by-age w n p s g (λ m. parentOf after m ≤ highest after) old-known new-known;
+        climb =
+            by-age w n p s g _
+            (λ m old l.
+            let was = rw (old-state w n p s g m old) at l in
+            old-climbs mostActions m (old .0 .1, λ _. was) (s .climb m (old .0) was))
+            (λ _. new-climbs);
         alive =
-            by-age _
-            (λ m h l.
-            rw (old-row m parentField h (omega arith))
-            (parent-alive (parentOf w m) (parent-known s m h) (s .alive m h (rw (old-row m stateField h (omega arith)) at l))))
-            (λ l. rw (start-parent w p (s .long) room) (parent-alive p known (store-or-live (ℕ-discrete p 0))));
+            by-age w n p s g _
+            (λ m old l.
+            let was = rw (old-state w n p s g m old) at l in
+            rw (live-row w n p s g m parentField (old .0) was (omega arith))
+            (still-held (parentOf w m) (parent-store-or-live s m (old .0) was)))
+            (λ l. rw (new-parent w n p s g) (still-held p (known, alive)));
         reads =
             λ h m k kind begun.
-            by-age
-            (λ x.
-            isLive (startTable w p) x ≡ true → k < accountCount → hasRead (startTable w p) x k ≡ true →
-            readTime (startTable w p) h x k ≤ counter (startTable w p) h)
-            (λ x hx l hk r.
-            rw (old-row x (readField k) hx (omega arith), old-row x (subTimeField k) hx (omega arith), start-counter w p h kind)
-            (s .reads h x k kind hx (rw (old-row x stateField hx (omega arith)) at l) hk
-            (rw (old-row x (readField k) hx (omega arith)) at r)))
+            by-age w n p s g
+            (λ x. isLive after x ≡ true → k < accountCount → hasRead after x k ≡ true → readTime after h x k ≤ counter after h)
+            (λ x old l hk r.
+            rw (
+              old-field w n p s g x (readField k) old (omega arith) (λ z. omega arith),
+              old-field w n p s g x (subTimeField k) old (omega arith) (λ z. omega arith),
+              give-counter w n p h (g .first) kind,
+            )
+            (s .reads h x k kind (old .0) (rw (old-state w n p s g x old) at l) hk
+            (rw (old-field w n p s g x (readField k) old (omega arith) (λ z. omega arith)) at r)))
             (λ l hk r. absurd (no-read k hk r)) m begun;
         ends =
-            by-age _
-            (λ m h e.
+            by-age w n p s g _
+            (λ m old e.
             rw (
-              old-row m endField h (omega arith),
-              old-row m parentField h (omega arith),
-              start-counter w p (kindOf w m) (kind-known (parentOf w m)),
+              old-field w n p s g m endField old (omega arith) (λ z. omega arith),
+              old-kind w n p s g m old,
+              give-counter w n p (kindOf w m) (g .first) (kind-known (parentOf w m)),
             )
-            (s .ends m h (rw (old-end m h) at e)))
-            (λ e. absurd (new-no-end e));
+            (s .ends m (old .0) (rw (old-end w n p s g m old) at e)))
+            (λ e. absurd (new-no-end w n p s g e));
         alone = ends-alone;
         pendings =
-            λ m k h charge. by-age (λ x. hasWritten (startTable w p) x k ≡ false → pendingWord (startTable w p) x k ≡ 0)
-            (λ x hx none.
-            rw (old-row x (pendingField k) hx (omega arith)) (s .pendings x k hx charge (rw (old-row x (writeField k) hx (omega arith)) at none)))
-            (λ none. start-pending w p (s .long) room k charge) m h;
+            λ m k begun charge.
+            by-age w n p s g (λ x. hasWritten after x k ≡ false → pendingWord after x k ≡ 0)
+            (λ x old none.
+            rw (old-field w n p s g x (pendingField k) old (omega arith) (λ z. omega arith))
+            (s .pendings x k (old .0) charge (rw (old-field w n p s g x (writeField k) old (omega arith) (λ z. omega arith)) at none)))
+            (λ none. give-pending w n p (s .long) (g .first) (g .few) k charge) m begun;
         lines = lines-on;
       }
     where
-      store-or-live : Dec (p ≡ 0) → (p ≡ 0) ⊎ (isLive w p ≡ true)
-      store-or-live (yes e) = inl e
-      store-or-live (no ne) = inr (alive (omega arith))
+      old-known : (m : ℕ) → IsGiven w m × (m ≢ n) → parentOf after m ≤ highest after
+      old-known m old =
+          rw (old-parent w n p s g m old)
+          (cond-holds (λ q. q ≤ highest after) (isChildOf w n m)
+          (λ _. omega (arith, old .0, start-highest w n p s g))
+          (λ _. omega (arith, s .known m (old .0), start-highest w n p s g)))
 
-      ends-alone :
-          (n m : ℕ) → IsGiven (startTable w p) n → IsGiven (startTable w p) m → hasEnd (startTable w p) n ≡ true →
-          hasEnd (startTable w p) m ≡ true → parentOf (startTable w p) m ≡ parentOf (startTable w p) n →
-          endTime (startTable w p) m ≡ endTime (startTable w p) n → m ≡ n
-      ends-alone n m hn hm en em parents ends =
-          ⊎-elim
-          (λ on. ⊎-elim
-          (λ om.
-          s .alone n m on om (rw (old-end n on) at en) (rw (old-end m om) at em)
-          (sym (old-row m parentField om (omega arith)) ∙ parents ∙ old-row n parentField on (omega arith))
-          (sym (old-row m endField om (omega arith)) ∙ ends ∙ old-row n endField on (omega arith)))
-          (λ e. absurd (new-no-end (rw e at em))) (old-or-new m hm))
-          (λ e. absurd (new-no-end (rw e at en))) (old-or-new n hn)
+      new-known : parentOf after n ≤ highest after
+      new-known = rw (new-parent w n p s g) (omega (arith, known, start-highest w n p s g))

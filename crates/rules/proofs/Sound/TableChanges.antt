@@ -1,25 +1,26 @@
 -- What a change of the table must show so that a sound table stays sound: one law for every event that starts nothing.
 -- Assumes nothing.
-use Prim.Native.Nat.{ℕ, _≤_, _<_}
+use Prim.Native.Nat.{ℕ, _+_, _≤_, _<_}
 use native.Mathlib.Omega.{arith}
 use native.Mathlib.Decide.{ℕ-discrete}
 use native.Mathlib.Nat.{le-of-eq}
-use mathlib.Core.Path.{_≡_, refl, sym, _∙_, ap, fun-ext}
+use mathlib.Core.Path.{_≡_, refl, sym, _∙_, ap}
 use mathlib.Core.Logic.{_⊎_, inl, inr, ⊎-elim, _≢_}
 use mathlib.Core.Bool.{true, false, not}
 use mathlib.Core.List.{List}
 use borrow.Author.Tests.{eqb-true}
 use lib.Dec.{eqb}
 use lib.ListN.{length}
-use Rattle.rules.specs.Range.{count}
 use Rattle.rules.specs.Card.{accountCount, accounts, IsCharge}
 use Rattle.rules.specs.Kind.{IsKind, kindUnder}
-use Rattle.rules.specs.Table.{hasEnd, tableLength, entryFields, width, live, committed, word, writeFields, highestField, counterField, parentField, stateField, endField, readField, readEntry, subTimeField, subTime, writeField, writeEntry, entered, hasWritten, hasWrites, pendingField, pendingWord, highest, counter, parentOf, kindOf, stateOf, endTime, hasRead, readTime, isLive, isCommitted, actions, isChildOf, isLiveChildOf, hasLiveChild}
-use Rattle.rules.specs.Queue.{queueLengthField, isQueued}
-use Rattle.rules.specs.Sound.{isCommittedOf, hasState, queueNumbers, IsGiven, SoundQueue, Sound}
+use Rattle.rules.specs.Table.{hasEnd, tableLength, entryFields, width, live, committed, word, writeFields, highestField, counterField, parentField, stateField, endField, readField, readEntry, subTimeField, subTime, writeField, writeEntry, entered, hasWritten, hasWrites, pendingField, pendingWord, highest, counter, lastTime, parentOf, kindOf, stateOf, endTime, hasRead, readTime, isLive, isCommitted, actions, isChildOf, isLiveChildOf, hasLiveChild, mostActions}
+use Rattle.rules.specs.Queue.{queueLengthField, queueLength, isQueued}
+use Rattle.rules.specs.Sound.{hasState, queueNumbers, IsGiven, SoundQueue, Sound}
+use Rattle.rules.specs.Walk.{climbs}
 use Rattle.rules.proofs.Laws.Tests.{and-left, and-right, and-both, not-both, false-of-not-true}
 use Rattle.rules.proofs.Laws.Ranges.{not-any, not-any-at, any-agree}
 use Rattle.rules.proofs.Laws.Kinds.{kind-known}
+use Rattle.rules.proofs.Laws.Climbing.{climbs-agree}
 use Rattle.rules.proofs.Laws.Queue.{SameLine, queue-kept}
 
 -- ---- facts that every event needs
@@ -57,12 +58,22 @@ ReadsInTime w v =
     (h m k : ℕ) → IsKind h → IsGiven w m → isLive v m ≡ true → k < accountCount → hasRead v m k ≡ true →
     readTime v h m k ≤ counter v h
 
+-- Each counter has room for an end time of each who waits in its queue.
+abbrev pub Bounded : List ℕ → Type 0
+Bounded v = (h : ℕ) → IsKind h → counter v h + queueLength v h ≤ lastTime
+
+-- so it stays where neither changes
+pub bounds-stay :
+    {w : List ℕ} → Sound w → (v : List ℕ) → ((h : ℕ) → IsKind h → counter v h ≡ counter w h) →
+    ((h : ℕ) → IsKind h → queueLength v h ≡ queueLength w h) → Bounded v
+bounds-stay s v counters lengths h known = rw (counters h known, lengths h known) (s .bounded h known)
+
 -- The table v, after an event at table w in which action `now` may have ended.
 pub record TableChange (w v : List ℕ) (now : ℕ) : Type 0 where
   pub long : length v ≡ tableLength
   pub sameHighest : highest v ≡ highest w
   pub rising : (h : ℕ) → IsKind h → counter w h ≤ counter v h
-  pub counted : (h : ℕ) → IsKind h → counter v h ≤ count (isCommittedOf v h) (actions v)
+  pub bounded : Bounded v
   pub states : (m : ℕ) → IsGiven w m → hasState v m ≡ true
   pub parents : (m : ℕ) → IsGiven w m → parentOf v m ≡ parentOf w m
   -- nothing becomes live, and a parent that was live stays so while a child does
@@ -74,7 +85,7 @@ pub record TableChange (w v : List ℕ) (now : ℕ) : Type 0 where
   pub lines : (h : ℕ) → IsKind h → SoundQueue v h
 
 module _ (w v : List ℕ) (now : ℕ) (s : Sound w) (c : TableChange w v now) where
-  -- the started actions are the same
+  -- the numbers that were given are the same
   before : (m : ℕ) → IsGiven v m → IsGiven w m
   before m h = (h .0, rw (c .sameHighest) at (h .1))
 
@@ -95,17 +106,28 @@ module _ (w v : List ℕ) (now : ℕ) (s : Sound w) (c : TableChange w v now) wh
       (λ new. omega (arith, new .1, new .2))
       (c .ends m (before m h) e))
 
+  -- the parents on the way up are the same
+  still-climbs : (m : ℕ) → IsGiven v m → isLive v m ≡ true → climbs (parentOf v) mostActions m ≡ true
+  still-climbs m h l =
+      climbs-agree (parentOf w) (parentOf v) (λ x. x ≤ highest w)
+      (λ x ne known. let begun : IsGiven w x = (omega arith, known) in (c .parents x begun, s .known x begun))
+      mostActions m (before m h .1) (s .climb m (before m h) (c .wasLive m (before m h) l))
+
   -- two ends with one time under one parent are one: an old time is at most the old counter, the new one above it
   end-alone :
-      (n m : ℕ) → IsGiven v n → IsGiven v m → hasEnd v n ≡ true → hasEnd v m ≡ true → parentOf v m ≡ parentOf v n → endTime v m ≡ endTime v n → m ≡ n
-  end-alone n m hn hm en em parents ends = go (c .ends n (before n hn) en) (c .ends m (before m hm) em)
+      (n m : ℕ) → IsGiven v n → IsGiven v m → hasEnd v n ≡ true → hasEnd v m ≡ true → parentOf v n ≢ n → parentOf v m ≢ m →
+      parentOf v m ≡ parentOf v n → endTime v m ≡ endTime v n → m ≡ n
+  end-alone n m hn hm en em other other′ parents ends = go (c .ends n (before n hn) en) (c .ends m (before m hm) em)
     where
       under : parentOf w m ≡ parentOf w n
       under = sym (c .parents m (before m hm)) ∙ parents ∙ c .parents n (before n hn)
 
       -- both are of the kind of n's parent's children
       go : Ended w v now n → Ended w v now m → m ≡ n
-      go (inl a) (inl b) = s .alone n m (before n hn) (before m hm) (a .0) (b .0) under (sym (b .1) ∙ ends ∙ a .1)
+      go (inl a) (inl b) =
+          s .alone n m (before n hn) (before m hm) (a .0) (b .0)
+          (rw (c .parents n (before n hn)) at other) (rw (c .parents m (before m hm)) at other′)
+          under (sym (b .1) ∙ ends ∙ a .1)
       go (inl a) (inr b) =
           absurd (omega (arith, s .ends n (before n hn) (a .0), a .1, rw under at (b .1), rw under at (b .2)))
       go (inr a) (inl b) =
@@ -122,8 +144,9 @@ module _ (w v : List ℕ) (now : ℕ) (s : Sound w) (c : TableChange w v now) wh
         long = c .long;
         few = rw (c .sameHighest) (s .few);
         states = λ m h. c .states m (before m h);
-        counted = c .counted;
-        below = λ m h. rw (c .parents m (before m h)) (s .below m (before m h));
+        bounded = c .bounded;
+        known = λ m h. rw (c .parents m (before m h), c .sameHighest) (s .known m (before m h));
+        climb = still-climbs;
         alive = parent-alive;
         reads = λ h m k known begun. c .reads h m k known (before m begun);
         ends = end-in-time;
@@ -185,18 +208,17 @@ quiet-line w v s h known same starts parents states =
 -- A change that leaves the head, the parents and the states as they were.
 pub quiet-change :
     (w v : List ℕ) (now : ℕ) → Sound w → length v ≡ length w → highest v ≡ highest w →
-    ((h : ℕ) → IsKind h → counter v h ≡ counter w h) →
+    ((h : ℕ) → IsKind h → counter v h ≡ counter w h) → Bounded v →
     ((m : ℕ) → parentOf v m ≡ parentOf w m) → ((m : ℕ) → stateOf v m ≡ stateOf w m) → ReadsInTime w v →
     ((m : ℕ) → IsGiven w m → hasEnd v m ≡ true → Ended w v now m) →
     ((m k : ℕ) → IsGiven w m → IsCharge k → SumStays w v m k) → ((h : ℕ) → IsKind h → SoundQueue v h) →
     TableChange w v now
-unfolding actions
-quiet-change w v now s len start counters parents states reads ends pendings lines =
+quiet-change w v now s len start counters bounded parents states reads ends pendings lines =
     record {
       long = len ∙ s .long;
       sameHighest = start;
       rising = λ h known. le-of-eq (sym (counters h known));
-      counted = λ h known. rw (counters h known, start, committed-kept h) (s .counted h known);
+      bounded = bounded;
       states = λ m h. rw (states m) (s .states m h);
       parents = λ m h. parents m;
       wasLive = λ m h l. rw (states m) at l;
@@ -206,9 +228,6 @@ quiet-change w v now s len start counters parents states reads ends pendings lin
       pendings = pendings;
       lines = lines;
     }
-  where
-    committed-kept : (h : ℕ) → isCommittedOf v h ≡ isCommittedOf w h
-    committed-kept h = fun-ext (λ m. rw (states m, parents m) refl)
 
 -- A change that enters account k in the write set of live action n, and may change n's pending sum for k.
 module _
@@ -220,6 +239,12 @@ module _
     (accounts-kept : (j : ℕ) → IsCharge j → j ≢ k → (writeEntry v n j ≡ writeEntry w n j) × (pendingWord v n j ≡ pendingWord w n j)) where
   state-kept : (m : ℕ) → stateOf v m ≡ stateOf w m
   state-kept m = fields m stateField (omega arith)
+
+  counter-kept : (h : ℕ) → IsKind h → counter v h ≡ counter w h
+  counter-kept h known = fields 0 (counterField h) (omega arith)
+
+  length-kept : (h : ℕ) → IsKind h → queueLength v h ≡ queueLength w h
+  length-kept h known = fields 0 (queueLengthField h) (omega arith)
 
   end-kept : (m : ℕ) → hasEnd v m ≡ true → Ended w v n m
   end-kept m e = go (ℕ-discrete m n)
@@ -239,7 +264,7 @@ module _
   reads-kept h m j known begun l hj r =
       let entry : readEntry v m j ≡ readEntry w m j = fields m (readField j) (omega arith) in
       let time : subTime v m j ≡ subTime w m j = behind m (subTimeField j) (omega arith) (omega arith) in
-      rw (entry, time, fields 0 (counterField h) (omega arith))
+      rw (entry, time, counter-kept h known)
       (s .reads h m j known begun (rw (state-kept m) at l) hj (rw entry at r))
 
   sums-stay : (m j : ℕ) → IsCharge j → SumStays w v m j
@@ -254,14 +279,14 @@ module _
   pub entering-change : TableChange w v n
   entering-change =
       quiet-change w v n s len
-      (fields 0 highestField (omega arith)) (λ h known. fields 0 (counterField h) (omega arith))
+      (fields 0 highestField (omega arith)) counter-kept (bounds-stay s v counter-kept length-kept)
       (λ m. fields m parentField (omega arith)) state-kept reads-kept
       (λ m h. end-kept m)
       (λ m j h. sums-stay m j)
       (λ h known.
       quiet-line w v s h known
       (record {
-        sameLength = fields 0 (queueLengthField h) (omega arith);
+        sameLength = length-kept h known;
         sameEntries = λ i g _ first last. behind i g (omega arith) (omega arith);
       })
       (fields 0 highestField (omega arith)) (λ m. fields m parentField (omega arith)) state-kept)

@@ -11,7 +11,7 @@ use lib.ListN.{getD}
 use borrow.Author.Tests.{leb-false, ltb-false, eq-eqb, ne-eqb}
 use Rattle.rules.specs.Range.{any}
 use Rattle.rules.specs.Card.{accountCount, accounts, isCharge, cardLength, basePlace, shadowPlace}
-use Rattle.rules.specs.Table.{parentOf, writeField, writeEntry, hasWritten, hasCard}
+use Rattle.rules.specs.Table.{parentOf, writeField, writeEntry, hasWritten, hasCard, isLive}
 use Rattle.rules.specs.Sound.{IsGiven, Sound}
 use Rattle.rules.specs.Ledger.{Ledger}
 use Rattle.rules.specs.Commit.{copyOne, copiedDown, committedUnder}
@@ -81,12 +81,13 @@ module _ {s : Ledger} {n p : ℕ} (can : CanCopy s n p) (k : ℕ) (account : k <
 
 -- ---- all turns
 
-module _ (s : Ledger) (sound : Sound (s .table)) (fits : LedgerFits s) (n : ℕ) (begun : IsGiven (s .table) n) where
+module _ (s : Ledger) (sound : Sound (s .table)) (fits : LedgerFits s) (n : ℕ) (begun : IsGiven (s .table) n)
+    (alive : isLive (s .table) n ≡ true) where
   abbrev parent : ℕ
   parent = parentOf (s .table) n
 
   can : CanCopy s n parent
-  can = sound-can-copy sound fits n begun
+  can = sound-can-copy sound fits n begun alive
 
   committed-lengths : SameLengths s (committedUnder s n parent)
   unfolding committedUnder

@@ -1,9 +1,10 @@
 -- RULES 4.8: between two turns of a commit its parent holds, from some account up, what the whole commit leaves, and below it
 -- what it held before; what the turns leave in the end doesn't tell their order. Assumes nothing.
 use Prim.Native.Nat.{ℕ, _≤_}
-use mathlib.Core.Path.{sym, _∙_}
+use mathlib.Core.Path.{_≡_, sym, _∙_}
+use mathlib.Core.Bool.{true}
 use Rattle.rules.specs.Card.{accountCount, StoresFit}
-use Rattle.rules.specs.Table.{parentOf}
+use Rattle.rules.specs.Table.{parentOf, isLive}
 use Rattle.rules.specs.Sound.{IsGiven, Sound}
 use Rattle.rules.specs.Ledger.{Ledger}
 use Rattle.rules.specs.Commit.{committedUnder}
@@ -15,12 +16,12 @@ use Rattle.rules.proofs.Sound.Committing.{commit-sum-copied}
 
 module _
     (s : Ledger) (sound : Sound (s .table)) (fits : StoresFit (s .base) (s .shadow)) (n : ℕ) (begun : IsGiven (s .table) n)
-    (k : ℕ) (few : k ≤ accountCount) where
+    (alive : isLive (s .table) n ≡ true) (k : ℕ) (few : k ≤ accountCount) where
   abbrev p : ℕ
   p = parentOf (s .table) n
 
   can-copy : CanCopy s n p
-  can-copy = sound-can-copy sound fits n begun
+  can-copy = sound-can-copy sound fits n begun alive
 
   between : LastFirst s n p k
   unfolding committedUnder
@@ -36,4 +37,4 @@ pub copies-last-first : CopiesLastFirst
 copies-last-first = between
 
 pub copies-tell-no-order : CopiesTellNoOrder
-copies-tell-no-order s sound fits n begun = either-order (sound-can-copy sound fits n begun)
+copies-tell-no-order s sound fits n begun alive = either-order (sound-can-copy sound fits n begun alive)

@@ -75,7 +75,7 @@ module _ (h : ℕ) (known : IsKind h) (s : Ledger) (sound : Sound (s .table)) (r
         writes-then (kept h known (headIn h s) (head-queued (s .table) h ready)) (out-kept sound h known (headIn h s) (headIn h s)) in
         leaves-then w [] (headIn h s ∷ []) (stores-stay s _)
         (commit-leaves (headOut h s) (head-out-sound h known s sound ready) fits (headIn h s)
-        (head-committable h known s sound ready .own) w (same .parent) (same .writes))
+        (head-committable h known s sound ready .own) (head-committable h known s sound ready .alive) w (same .parent) (same .writes))
 
     head-leaves-bytes : LeavesBy w (committing (headIn h s) (isHeadOutside h s)) s (headLeft h s)
     head-leaves-bytes = finished-leaves (isHeadOutside h s)

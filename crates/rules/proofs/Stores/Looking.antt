@@ -57,7 +57,7 @@ pub look-inside :
 look-inside w base shadow n k h =
     let a = read-allowed w base shadow n k h in
     let sound = facts w (a .soundTest) in
-    let few : nearest w n k ≤ mostActions = omega (arith, nearest-given w sound n k (a .early .numberKnown), a .early .numberKnown, sound .few) in
+    let few : nearest w n k ≤ mostActions = omega (arith, nearest-given w sound n k (a .early .numberKnown, a .early .alive), sound .few) in
     let inBaseStore = line-fits (base-line base (a .baseFits)) k (a .early .accountKnown refl) in
     let inShadowStore = line-fits (shadow-line shadow (nearest w n k) (a .shadowFits) few) k (a .early .accountKnown refl) in
     rw (look-given w base shadow n k h)
@@ -68,7 +68,7 @@ module _ (w base shadow : List ℕ) (n k : ℕ) (given : lookCause w base shadow
   pub look-charge : look w base shadow n k ≡ lookAt (record { holder = 0; moves = movesToStore w n }) k
   look-charge =
       let a = read-allowed w base shadow n k given in
-      let up = sound-climbs (facts w (a .soundTest)) n (a .early .numberKnown) in
+      let up = sound-climbs (facts w (a .soundTest)) n (a .early .numberKnown, a .early .alive) in
       look-given w base shadow n k given ∙ rw (nearest-charge w k charge n up, movesUp-charge w k charge n up)
 
   pub lookedCard-charge : lookedCard w base shadow n k ≡ cardAt base (basePlace k)

@@ -11,6 +11,7 @@ use Rattle.rules.specs.declared.Found.the-variants.{Nothing, At}
 use Rattle.rules.specs.declared.Version.{Version}
 use Rattle.rules.specs.Card.{isCharge, basePlace, cardAt}
 use Rattle.rules.specs.Amount.{amountOf, amountWord}
+use Rattle.rules.specs.Walk.{Climbs}
 use Rattle.rules.specs.Event.{Event, readCode, eventOf, isRead}
 use Rattle.rules.specs.Ledger.{Ledger}
 use Rattle.rules.specs.Cause.{causeOf}
@@ -23,7 +24,7 @@ use Rattle.rules.proofs.Laws.Tests.{not-both}
 use Rattle.rules.proofs.Laws.Allowed.{allowed-none}
 use Rattle.rules.proofs.Laws.EventCases.{AllowedIn, step-by-cause, act-by-kind}
 use Rattle.rules.proofs.Laws.Permitted.{read-fits, read-sum-fits}
-use Rattle.rules.proofs.Laws.Walking.{Climbs, sound-climbs, movesToStore}
+use Rattle.rules.proofs.Laws.Walking.{sound-climbs, movesToStore}
 use Rattle.rules.proofs.Laws.Versions.{version-nearest}
 use Rattle.rules.proofs.Laws.Charges.{nearest-charge, movesUp-charge}
 use Rattle.rules.proofs.Laws.Amounts.{amount-read-back}
@@ -124,7 +125,8 @@ module _ (s : Ledger) (e : Event) (v : Version) where
   named : AllowedIn s e → isRead e ≡ true → version (s .table) (e .number) (e .account) ≡ v → Named
   named a reads same =
       rw (← same) (
-        version-nearest (s .table) (facts (s .table) (a .soundTest)) (e .number) (e .account) (a .early .numberKnown),
+        version-nearest (s .table) (facts (s .table) (a .soundTest)) (e .number) (e .account)
+            (a .early .numberKnown, a .early .alive),
         look-given (s .table) (s .base) (s .shadow) (e .number) (e .account) (read-looked s e a reads),
       )
 
@@ -164,7 +166,7 @@ read-answers-sum s e v x is =
     let k = e .account in
     let (a, reads, answer) = of-read s e (rw is) in
     let (charge, same, word) = sum-chosen (version w n k) v (amountWord (readSum w (s .base) n k)) x (isCharge k) (sym answer ∙ is) in
-    let up : Climbs w n = sound-climbs (facts w (a .soundTest)) n (a .early .numberKnown) in
+    let up : Climbs w n = sound-climbs (facts w (a .soundTest)) n (a .early .numberKnown, a .early .alive) in
     let (near, looked) = named s e v a reads same in
     let fits = read-sum-fits w (s .base) n k (read-fits a reads) charge in
     record {

@@ -24,7 +24,7 @@ use Rattle.rules.specs.Touch.{isPut, isJoined, isCommitting, committersA
 use Rattle.rules.proofs.Laws.Tests.{and-fails, or-inl, or-inr, or-neither, cond-holds}
 use Rattle.rules.proofs.Laws.Cards.{Fits, withCard-length, withCard-outside}
 use Rattle.rules.proofs.Laws.EventCases.{causeIn, AllowedIn, OfStep, step-by-cause, act-by-kind, no-start}
-use Rattle.rules.proofs.Laws.Permitted.{named-given, judge-permitted}
+use Rattle.rules.proofs.Laws.Permitted.{named-given, named-alive, judge-permitted}
 use Rattle.rules.proofs.Sound.Soundness.{facts}
 use Rattle.rules.proofs.Copies.Lines.{shadow-line, line-fits}
 use Rattle.rules.proofs.Stores.Leaves.{LedgerFits, SameLengths, Leaves, stores-stay, isSettledBy, LeavesBy}
@@ -136,7 +136,8 @@ module _ (s : Ledger) (e : Event) where
     unfolding judged
     commit-touches is Nothing clear =
         by-commits [] (e .number ∷ []) (rw (is, clear))
-        (commit-leaves s sound fits (e .number) (named-given a (no-start e commitCode is refl)) (s .table) refl (λ k h. refl))
+        (let other = no-start e commitCode is refl in
+        commit-leaves s sound fits (e .number) (named-given a other) (named-alive a other) (s .table) refl (λ k h. refl))
     commit-touches is (At t k) clash = stores-stay s _
 
     judge-touches : isJudge e ≡ true → Touched (judge s (e .number) .after) (judgeLeft s (e .number) .commits)

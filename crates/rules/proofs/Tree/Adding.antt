@@ -5,17 +5,15 @@ use native.Mathlib.Decide.{ℕ-discrete}
 use mathlib.Core.Path.{_≡_, ap, _∙_}
 use mathlib.Core.Logic.{_≢_}
 use mathlib.Core.List.{List}
-use lib.Dec.{eqb}
 use lib.IntN.{ℤ}
 use Rattle.rules.specs.Card.{IsCharge}
 use Rattle.rules.specs.Amount.{amountOf, amountIn}
-use Rattle.rules.specs.Table.{width, committed, word, highestField, parentField, stateField, writeField, pendingField, ownAddsField}
+use Rattle.rules.specs.Table.{width, word, highestField, writeField, pendingField, ownAddsField, keptField}
 use Rattle.rules.specs.Sound.{Sound}
 use Rattle.rules.specs.Step.{addTable}
 use Rattle.rules.proofs.Laws.Amounts.{amount-read-back}
 use Rattle.rules.proofs.Laws.Permitted.{Touchable, AddFits}
-use Rattle.rules.proofs.Sound.TableChanges.{live-uncommitted}
-use Rattle.rules.proofs.Sound.Adding.{firstOwnAdds, add-keeps-field, add-keeps-row, add-pending, add-own-adds, add-keeps-own-adds}
+use Rattle.rules.proofs.Sound.Adding.{firstOwnAdds, add-keeps-field, add-keeps-behind, add-keeps-row, add-pending, add-own-adds, add-keeps-own-adds}
 use Rattle.rules.proofs.Tree.Quiet.{GrowAlike, grow-nothing, Quiet}
 
 -- n adds the amount in this card to charge account j
@@ -38,7 +36,6 @@ module _
   grown-there =
       record {
         by = x;
-        addable = fits .addable;
         pending =
             ap amountOf (add-pending w s n j (permitted .own) (permitted .alive) to x) ∙ amount-read-back _ (fits .pendingFits);
         own = ap amountOf (add-own-adds w s n j (permitted .own) (permitted .alive) to x) ∙ amount-read-back _ (fits .ownAddsFit);
@@ -53,14 +50,10 @@ module _
       (add-keeps-own-adds w s n j (permitted .own) (permitted .alive) to x m k charge ne)
   grown m (yes e) (yes same) = rw (e, same) grown-there
 
-  -- an action that has committed is not n, which is live
   pub add-quiet : Quiet w v k
   add-quiet =
       record {
         starts = kept-field 0 highestField (omega arith) (λ z. omega arith) (λ z. omega arith);
-        parents = λ m h. kept-field m parentField (omega arith) (λ z. omega arith) (λ z. omega arith);
-        states = λ m h. ap (λ y. eqb y committed) (kept-field m stateField (omega arith) (λ z. omega arith) (λ z. omega arith));
-        settled =
-            λ m h did. kept-row m (pendingField k) (omega arith) (λ e. live-uncommitted w n (permitted .alive) (rw e at did));
+        kept = λ m. add-keeps-behind w s n j (permitted .own) (permitted .alive) to x m (keptField k) (omega arith) (omega arith);
         grown = λ m h. grown m (ℕ-discrete m n) (ℕ-discrete k j);
       }

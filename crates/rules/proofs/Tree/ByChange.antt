@@ -10,12 +10,13 @@ use Rattle.rules.specs.declared.Found.the-variants.{Nothing, At}
 use Rattle.rules.specs.Card.{firstCharge, IsCharge}
 use Rattle.rules.specs.Table.{parentOf, kindOf}
 use Rattle.rules.specs.Kind.{IsKind, topKind, subKind}
+use Rattle.rules.specs.Free.{nextNumber}
 use Rattle.rules.specs.Queue.{isHeadReady}
 use Rattle.rules.specs.Event.{Event}
 use Rattle.rules.specs.Ledger.{Ledger, ledgerOf, withTable}
 use Rattle.rules.specs.Cause.{isCommitOutside}
 use Rattle.rules.specs.Commit.{committedUnder}
-use Rattle.rules.specs.Step.{startTable, start, read, write, add, judged, takenOut, finished, leave, leaveBoth, enterTable, enter, isJudgedFailed, revealed, judgeLeft, judge, outOfBoth, dropped, abortLeft, abort, step, headIn, headOut, isHeadOutside, headLeft}
+use Rattle.rules.specs.Step.{giveTable, start, read, write, add, judged, takenOut, finished, leave, leaveBoth, enterTable, enter, isJudgedFailed, revealed, judgeLeft, judge, outOfBoth, dropped, abortLeft, abort, step, headIn, headOut, isHeadOutside, headLeft}
 use Rattle.rules.proofs.Laws.Kinds.{kind-known}
 use Rattle.rules.proofs.Laws.Permitted.{Startable, Touchable, Committable, Judgeable, step-by-kind}
 use Rattle.rules.proofs.Sound.QueueChanges.{without-change, out-committable}
@@ -116,21 +117,21 @@ module _
         (calms (withTable s (outOfBoth (s .table) n)) _ (s .shadow) (abort-calm (out-proper proper n .sound) n k charge)
         (both-out-keeps s proper n was))
 
-  -- ---- any event: Q holds after it where P does, and after a start and an add
+  -- ---- any event, where a start and an add keep it too
   pub step-by-change :
-      (Q : Ledger → Type 0) (s : Ledger) (e : Event) → Proper s → P s → ((t : Ledger) → P t → Q t) →
-      (Startable (s .table) (e .number) → Q (withTable s (startTable (s .table) (e .number)))) →
-      ((v : List ℕ) → Quiet (s .table) v k → Q (withTable s v)) → Q (step s e .after)
+      (s : Ledger) (e : Event) → Proper s → P s →
+      (Startable (s .table) (e .number) → P (withTable s (giveTable (s .table) (nextNumber (s .table)) (e .number)))) →
+      ((v : List ℕ) → Quiet (s .table) v k → P (withTable s v)) → P (step s e .after)
   unfolding start add
-  step-by-change Q s e proper was weaker starts adds =
+  step-by-change s e proper was starts adds =
       let n = e .number in
       let j = e .account in
-      step-by-kind s e (λ o _. Q (o .after))
-      (weaker _ was) starts
-      (λ p _. weaker _ (reads s proper n was j p))
-      (λ p _ plain. weaker _ (writes s proper n was j (e .card) p plain))
-      (λ c _ f _ fits. weaker _ (judges s proper n was c f fits))
+      step-by-kind s e (λ o _. P (o .after))
+      was starts
+      (λ p _. reads s proper n was j p)
+      (λ p _ plain. writes s proper n was j (e .card) p plain)
+      (λ c _ f _ fits. judges s proper n was c f fits)
       (λ p _ to fits. adds _ (add-quiet (proper .sound) n k charge j (e .card) p to fits))
-      (λ free. weaker _ (enters s proper n was free))
-      (λ j. weaker _ (reveals s proper n was j))
-      (weaker _ (aborts s proper n was))
+      (λ free. enters s proper n was free)
+      (λ j. reveals s proper n was j)
+      (aborts s proper n was)

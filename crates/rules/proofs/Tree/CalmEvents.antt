@@ -2,22 +2,21 @@
 -- nothing.
 use Prim.Native.Nat.{ℕ, _<_}
 use native.Mathlib.Omega.{arith}
-use mathlib.Core.Path.{_≡_, ap}
+use mathlib.Core.Path.{_≡_}
 use mathlib.Core.Logic.{inl, inr, _≢_}
 use mathlib.Core.List.{List}
-use lib.Dec.{eqb}
 use Rattle.rules.specs.Card.{firstCharge, IsCharge}
 use Rattle.rules.specs.Kind.{IsKind}
-use Rattle.rules.specs.Table.{IsActionField, width, word, committed, aborted, withState, highestField, parentField, kindOf, stateField, pendingField, ownAddsField, isCommitted}
+use Rattle.rules.specs.Table.{IsActionField, width, word, aborted, withState, highestField, kindOf, stateField, pendingField, ownAddsField, keptField}
 use Rattle.rules.specs.Queue.{withTail, withReady, withoutBelow}
-use Rattle.rules.specs.Sound.{IsGiven, Sound}
+use Rattle.rules.specs.Sound.{Sound}
 use Rattle.rules.specs.Step.{readTable, writeTable, abortTable}
 use Rattle.rules.proofs.Laws.Permitted.{Touchable, Committable}
 use Rattle.rules.proofs.Sound.QueueChanges.{OffLength, tail-keeps, ready-keeps, without-keeps}
 use Rattle.rules.proofs.Sound.Reading.{read-keeps-field}
 use Rattle.rules.proofs.Sound.Writing.{write-keeps-field}
-use Rattle.rules.proofs.Sound.Judging.{fail-keeps-field, fail-committed}
-use Rattle.rules.proofs.Sound.Aborting.{abort-keeps-field, abort-keeps-committed}
+use Rattle.rules.proofs.Sound.Judging.{fail-keeps-field}
+use Rattle.rules.proofs.Sound.Aborting.{abort-keeps-field}
 use Rattle.rules.proofs.Tree.Quiet.{Calm}
 
 module _ {w : List ℕ} (s : Sound w) (n k : ℕ) (charge : IsCharge k) where
@@ -28,8 +27,7 @@ module _ {w : List ℕ} (s : Sound w) (n k : ℕ) (charge : IsCharge k) where
       let kept = read-keeps-field w n j (p .account) in
       record {
         starts = kept 0 highestField (omega arith) (λ z. omega arith) (λ z. omega arith);
-        parents = λ m h. kept m parentField (omega arith) (λ z. omega arith) (λ z. omega arith);
-        states = λ m h. ap (λ x. eqb x committed) (kept m stateField (omega arith) (λ z. omega arith) (λ z. omega arith));
+        kept = λ m. kept m (keptField k) (omega arith) (λ z. omega (arith, p .account)) (λ z. omega (arith, p .account));
         pendings = λ m h. kept m (pendingField k) (omega arith) (λ z. omega (arith, p .account)) (λ z. omega (arith, p .account));
         owns = λ m h. kept m (ownAddsField k) (omega arith) (λ z. omega (arith, p .account)) (λ z. omega (arith, p .account));
       }
@@ -39,31 +37,27 @@ module _ {w : List ℕ} (s : Sound w) (n k : ℕ) (charge : IsCharge k) where
       let kept = write-keeps-field w s n j (p .own) (p .alive) (p .account) in
       record {
         starts = kept 0 highestField (omega arith) (λ z. omega arith);
-        parents = λ m h. kept m parentField (omega arith) (λ z. omega arith);
-        states = λ m h. ap (λ x. eqb x committed) (kept m stateField (omega arith) (λ z. omega arith));
+        kept = λ m. kept m (keptField k) (omega arith) (λ z. omega arith);
         pendings = λ m h. kept m (pendingField k) (omega arith) (λ z. omega arith);
         owns = λ m h. kept m (ownAddsField k) (omega arith) (λ z. omega arith);
       }
 
-  -- ---- states, where none commits
+  -- ---- states
 
-  states-calm :
-      {v : List ℕ} → ((m g : ℕ) → g < width → g ≢ stateField → word v m g ≡ word w m g) →
-      ((m : ℕ) → IsGiven w m → isCommitted v m ≡ isCommitted w m) → Calm w v k
-  states-calm kept states =
+  states-calm : {v : List ℕ} → ((m g : ℕ) → g < width → g ≢ stateField → word v m g ≡ word w m g) → Calm w v k
+  states-calm kept =
       record {
         starts = kept 0 highestField (omega arith) (λ z. omega arith);
-        parents = λ m h. kept m parentField (omega arith) (λ z. omega arith);
-        states = states;
+        kept = λ m. kept m (keptField k) (omega arith) (λ z. omega arith);
         pendings = λ m h. kept m (pendingField k) (omega arith) (λ z. omega arith);
         owns = λ m h. kept m (ownAddsField k) (omega arith) (λ z. omega arith);
       }
 
   pub fail-calm : Committable w n → Calm w (withState w n aborted) k
-  fail-calm j = states-calm (fail-keeps-field w s n j) (λ m h. fail-committed w s n j m (h .0))
+  fail-calm j = states-calm (fail-keeps-field w s n j)
 
   pub abort-calm : Calm w (abortTable w n) k
-  abort-calm = states-calm (abort-keeps-field w n) (abort-keeps-committed w n s)
+  abort-calm = states-calm (abort-keeps-field w n)
 
   -- ---- a queue
 
@@ -72,8 +66,7 @@ module _ {w : List ℕ} (s : Sound w) (n k : ℕ) (charge : IsCharge k) where
     queue-calm kept =
         record {
           starts = kept 0 highestField (inl (omega arith)) (inr (λ z. omega arith));
-          parents = λ m begun. kept m parentField (inl (omega arith)) (inl (begun .0));
-          states = λ m begun. ap (λ x. eqb x committed) (kept m stateField (inl (omega arith)) (inl (begun .0)));
+          kept = λ m. kept m (keptField k) (inr (omega arith)) (inr (λ z. omega arith));
           pendings = λ m begun. kept m (pendingField k) (inl (omega arith)) (inl (begun .0));
           owns = λ m begun. kept m (ownAddsField k) (inl (omega arith)) (inl (begun .0));
         }

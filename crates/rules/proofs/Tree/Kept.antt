@@ -1,20 +1,22 @@
 -- A new table carries the sums, and so does what every list of events leaves. Assumes nothing.
-use Prim.Native.Nat.{ℕ}
+use Prim.Native.Nat.{ℕ, _+_, _*_}
 use native.Mathlib.Omega.{arith}
-use mathlib.Core.Path.{refl, sym}
+use mathlib.Core.Path.{_≡_, refl, sym, ap, _∙_}
 use mathlib.Core.List.{List, [], _∷_}
-use lib.IntN.{+ℤ-idr}
-use Rattle.rules.specs.Range.{upFrom, filter}
+use lib.IntN.{pos, _+ℤ_, +ℤ-idr}
+use lib.ListN.{getD-replicate}
 use Rattle.rules.specs.Card.{IsCharge}
-use Rattle.rules.specs.Amount.{baseAmount}
-use Rattle.rules.specs.Table.{newTable, word, actions}
+use Rattle.rules.specs.Amount.{amountOf, baseAmount}
+use Rattle.rules.specs.Table.{width, tableLength, newTable, word, keptField, keptSum}
+use Rattle.rules.specs.Sound.{IsGiven}
 use Rattle.rules.specs.Event.{Event}
 use Rattle.rules.specs.Ledger.{Ledger}
 use Rattle.rules.specs.Step.{step}
 use Rattle.rules.specs.Run.{run}
-use Rattle.rules.specs.Tree.{children, committedChildren, addedUp}
 use Rattle.rules.specs.Serial.Demand.{newOver}
+use Rattle.rules.proofs.Laws.Amounts.{amount-zero}
 use Rattle.rules.proofs.Demand.Proper.{Proper, step-keeps-proper}
+use Rattle.rules.proofs.Demand.Starts.{start-givable}
 use Rattle.rules.proofs.Tree.Carried.{Carried}
 use Rattle.rules.proofs.Tree.Quiet.{calm-quiet, quiet-carried}
 use Rattle.rules.proofs.Tree.ByChange.{step-by-change}
@@ -25,10 +27,21 @@ use Rattle.rules.proofs.Tree.Committing.{commit-carried}
 abbrev pub CarriedIn : ℕ → List ℕ → Ledger → Type 0
 CarriedIn k opening s = Carried k (baseAmount opening k) (s .table) (baseAmount (s .base) k)
 
-pub new-carried : (base shadow : List ℕ) (k : ℕ) → CarriedIn k base (newOver base shadow)
-unfolding newTable word actions upFrom filter children committedChildren addedUp
-new-carried base shadow k =
-    record { sums = λ n h. absurd (omega (arith, h)); closing = sym (+ℤ-idr (baseAmount base k)) }
+-- a new table has no action, and nothing is kept of any topaction
+new-nobody : (n : ℕ) → IsGiven newTable n → ⊥
+unfolding newTable word
+new-nobody n h = omega (arith, h)
+
+new-kept : {k : ℕ} → IsCharge k → keptSum newTable 0 k ≡ pos 0
+unfolding newTable word
+new-kept {k} charge = ap amountOf (getD-replicate tableLength (width * 0 + keptField k) 0 0 (omega arith)) ∙ amount-zero
+
+pub new-carried : (base shadow : List ℕ) {k : ℕ} → IsCharge k → CarriedIn k base (newOver base shadow)
+new-carried base shadow {k} charge =
+    record {
+      sums = λ n h. absurd (new-nobody n h);
+      closing = sym (ap (λ z. baseAmount base k +ℤ z) (new-kept charge) ∙ +ℤ-idr (baseAmount base k));
+    }
 
 module _ {k : ℕ} (charge : IsCharge k) (opening : List ℕ) where
   step-carried : (s : Ledger) (e : Event) → Proper s → CarriedIn k opening s → CarriedIn k opening (step s e .after)
@@ -36,8 +49,8 @@ module _ {k : ℕ} (charge : IsCharge k) (opening : List ℕ) where
       step-by-change charge (CarriedIn k opening)
       (λ t v shadow calm. quiet-carried (calm-quiet calm))
       (λ t here n may fits. commit-carried here may refl fits k charge)
-      (CarriedIn k opening) s e proper was (λ t carried. carried)
-      (λ p. start-carried (proper .sound) (e .number) k charge p was)
+      s e proper was
+      (λ permitted. start-carried (proper .sound) _ (e .number) k charge (start-givable proper permitted) was)
       (λ v quiet. quiet-carried quiet was)
 
   pub run-carried : (s : Ledger) (es : List Event) → Proper s → CarriedIn k opening s → CarriedIn k opening (run s es .after)

@@ -1,4 +1,4 @@
--- A report is not refused where the stores fit, the table is sound and every figure is an amount. Assumes nothing.
+-- A report is not refused where the stores fit, the table is sound and every total is an amount. Assumes nothing.
 use Prim.Native.Nat.{ℕ}
 use native.Mathlib.Omega.{arith}
 use mathlib.Core.Path.{_≡_}
@@ -10,12 +10,12 @@ use borrow.Author.Tests.{eq-eqb}
 use Rattle.rules.specs.Range.{any}
 use Rattle.rules.specs.Card.{baseLength, firstCharge, chargeCount, chargeAccounts, IsCharge}
 use Rattle.rules.specs.Amount.{isAmount}
-use Rattle.rules.specs.Table.{highest, actions}
+use Rattle.rules.specs.Table.{highest, totalOf, actions}
 use Rattle.rules.specs.Sound.{IsGiven}
 use Rattle.rules.specs.Ledger.{Ledger}
 use Rattle.rules.specs.Cause.{isStoreLengthWrong}
-use Rattle.rules.specs.Tree.{totalOf, topSum, isFigureOutside, treeCauses, treeCause}
-use Rattle.rules.proofs.Laws.Tests.{not-fails, or-fails}
+use Rattle.rules.specs.Tree.{isShown, isFigureOutside, treeCauses, treeCause}
+use Rattle.rules.proofs.Laws.Tests.{not-fails, and-fails, or-fails}
 use Rattle.rules.proofs.Laws.Ranges.{not-any}
 use Rattle.rules.proofs.Laws.Allowed.{stores-fit}
 use Rattle.rules.proofs.Sound.Soundness.{tested}
@@ -23,10 +23,10 @@ use Rattle.rules.proofs.Demand.Proper.{Proper}
 
 pub not-refused :
     (s : Ledger) (opening : List ℕ) → Proper s → length opening ≡ baseLength →
-    ((n k : ℕ) → IsGiven (s .table) n → IsCharge k → isAmount (totalOf (s .table) k n) ≡ true) →
-    ((k : ℕ) → IsCharge k → isAmount (topSum (s .table) k) ≡ true) → treeCause (s .table) (s .base) (s .shadow) opening ≡ 0
+    ((n k : ℕ) → IsGiven (s .table) n → IsCharge k → isAmount (totalOf (s .table) n k) ≡ true) →
+    treeCause (s .table) (s .base) (s .shadow) opening ≡ 0
 unfolding treeCause treeCauses isFigureOutside actions chargeAccounts
-not-refused s opening proper openingFits totals tops =
+not-refused s opening proper openingFits totals =
     rw (lengths-right, tested (s .table) (proper .sound), all-inside)
   where
     lengths-right : (isStoreLengthWrong (s .base) (s .shadow) || not (eqb (length opening) baseLength)) ≡ false
@@ -38,10 +38,7 @@ not-refused s opening proper openingFits totals tops =
 
     figures-inside : (k : ℕ) → IsCharge k → isFigureOutside (s .table) k ≡ false
     figures-inside k charge =
-        or-fails _ _ .1 (
-          not-any _ 1 (highest (s .table)) (λ n h. not-fails _ .1 (totals n k (omega arith) charge)),
-          not-fails _ .1 (tops k charge),
-        )
+        not-any _ 1 (highest (s .table)) (λ n h. and-fails (isShown (s .table) n) _ .1 (λ _. not-fails _ .1 (totals n k (omega arith) charge)))
 
     all-inside : any (isFigureOutside (s .table)) chargeAccounts ≡ false
     all-inside = not-any _ firstCharge chargeCount (λ k h. figures-inside k (omega arith))

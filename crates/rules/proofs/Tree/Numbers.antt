@@ -1,14 +1,15 @@
 -- Numbers added up over a list. Assumes nothing.
-use Prim.Native.Nat.{ℕ, zero, suc, _+_, _*_, _≤_}
+use Prim.Native.Nat.{ℕ, zero, suc, _+_}
 use native.Mathlib.Omega.{arith}
-use native.Mathlib.Nat.{zero-add, add-zero, suc-mul}
+use native.Mathlib.Nat.{zero-add, add-zero}
 use native.Mathlib.Decide.{ℕ-discrete}
 use mathlib.Core.Path.{_≡_, refl, sym, ap, ap₂, _∙_}
-use mathlib.Core.Bool.{cond}
+use mathlib.Core.Bool.{Bool, true, false, cond}
 use mathlib.Core.List.{List, [], _∷_}
 use lib.Dec.{eqb}
 use borrow.Author.Tests.{eq-eqb, ne-eqb}
-use Rattle.rules.specs.Range.{upFrom}
+use Rattle.rules.specs.Range.{upFrom, count}
+use Rattle.rules.proofs.Laws.Tests.{cond-same}
 use Rattle.rules.proofs.Laws.Ranges.{Within}
 
 -- what f gives for each of these, added up
@@ -39,27 +40,53 @@ tally-swap f [] ms = sym (tally-nothing (λ m. 0) (λ m. refl) ms)
 tally-swap f (p ∷ ps) ms =
     ap (λ z. tally (f p) ms + z) (tally-swap f ps ms) ∙ sym (tally-plus (f p) (λ m. tally (λ q. f q m) ps) ms)
 
--- y where the number is x, and nothing elsewhere
-pub tally-there : (x y a n : ℕ) → Within a n x → tally (λ p. cond (eqb x p) y 0) (upFrom a n) ≡ y
+-- what f gives where the number is x, and nothing elsewhere
+pub tally-there : (f : ℕ → ℕ) (x a n : ℕ) → Within a n x → tally (λ p. cond (eqb x p) (f p) 0) (upFrom a n) ≡ f x
 unfolding tally upFrom
-tally-there x y a zero h = absurd (omega arith)
-tally-there x y a (suc n) h = by-place (ℕ-discrete x a) (tally-there x y (suc a) n)
+tally-there f x a zero h = absurd (omega arith)
+tally-there f x a (suc n) h = by-place (ℕ-discrete x a) (tally-there f x (suc a) n)
   where
     at-x : ℕ → ℕ
-    at-x p = cond (eqb x p) y 0
+    at-x p = cond (eqb x p) (f p) 0
 
     nowhere : x ≡ a → tally at-x (upFrom (suc a) n) ≡ 0
     nowhere e =
         tally-agree at-x (λ p. 0) (suc a) n (λ p r. rw (ne-eqb x p (λ z. omega arith)))
         ∙ tally-nothing (λ p. 0) (λ p. refl) (upFrom (suc a) n)
 
-    by-place : Dec (x ≡ a) → (Within (suc a) n x → tally at-x (upFrom (suc a) n) ≡ y) → at-x a + tally at-x (upFrom (suc a) n) ≡ y
-    by-place (yes e) later = rw (nowhere e, eq-eqb x a e) (add-zero y)
-    by-place (no ne) later = rw (later (omega arith), ne-eqb x a ne) (zero-add y)
+    by-place :
+        Dec (x ≡ a) → (Within (suc a) n x → tally at-x (upFrom (suc a) n) ≡ f x) → at-x a + tally at-x (upFrom (suc a) n) ≡ f x
+    by-place (yes e) later = rw (nowhere e, eq-eqb x a e) (add-zero (f a) ∙ ap f (sym e))
+    by-place (no ne) later = rw (later (omega arith), ne-eqb x a ne) (zero-add (f x))
 
--- each at most c
-pub tally-at-most : (f : ℕ → ℕ) (c a n : ℕ) → ((m : ℕ) → Within a n m → f m ≤ c) → tally f (upFrom a n) ≤ n * c
-unfolding tally upFrom
-tally-at-most f c a zero each = omega arith
-tally-at-most f c a (suc n) each =
-    omega (arith, suc-mul n c, each a (omega arith), tally-at-most f c (suc a) n (λ m h. each m (omega arith)))
+-- ---- of some of them
+
+-- what f gives for each of these of which c holds, added up
+unfoldable pub tallyOf : (ℕ → Bool) → (ℕ → ℕ) → List ℕ → ℕ
+tallyOf c f l = tally (λ m. cond (c m) (f m) 0) l
+
+pub tallyOf-nothing : (c : ℕ → Bool) (l : List ℕ) → tallyOf c (λ m. 0) l ≡ 0
+unfolding tallyOf
+tallyOf-nothing c l = tally-nothing _ (λ m. cond-same (c m) 0) l
+
+pub tallyOf-none : (c : ℕ → Bool) (f : ℕ → ℕ) (a n : ℕ) → ((m : ℕ) → Within a n m → c m ≡ false) → tallyOf c f (upFrom a n) ≡ 0
+unfolding tallyOf
+tallyOf-none c f a n none = tally-agree _ (λ m. 0) a n (λ m h. rw (none m h)) ∙ tally-nothing (λ m. 0) (λ m. refl) (upFrom a n)
+
+pub tallyOf-plus : (c : ℕ → Bool) (f g : ℕ → ℕ) (a n : ℕ) → tallyOf c (λ m. f m + g m) (upFrom a n) ≡ tallyOf c f (upFrom a n) + tallyOf c g (upFrom a n)
+unfolding tallyOf
+tallyOf-plus c f g a n = tally-agree _ _ a n (λ m h. each (c m) (f m) (g m)) ∙ tally-plus _ _ (upFrom a n)
+  where
+    each : (b : Bool) (x y : ℕ) → cond b (x + y) 0 ≡ cond b x 0 + cond b y 0
+    each true x y = refl
+    each false x y = refl
+
+-- one for each is how many there are
+pub tallyOf-ones : (c : ℕ → Bool) (l : List ℕ) → tallyOf c (λ m. 1) l ≡ count c l
+unfolding tallyOf tally count
+tallyOf-ones c [] = refl
+tallyOf-ones c (x ∷ xs) = one-more (c x) (tallyOf-ones c xs)
+  where
+    one-more : (b : Bool) {n m : ℕ} → n ≡ m → cond b 1 0 + n ≡ cond b (suc m) m
+    one-more true same = omega arith
+    one-more false same = omega arith

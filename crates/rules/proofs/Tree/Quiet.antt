@@ -1,49 +1,44 @@
 -- A change of the table that starts and commits nothing carries the sums on: a calm one, which changes no sum, and a quiet one,
 -- which may add to pending sums and own adds alike. Assumes nothing.
 use Prim.Native.Nat.{ℕ}
-use mathlib.Core.Path.{_≡_, refl, sym, ap, ap₂, _∙_}
-use mathlib.Core.Bool.{true}
+use mathlib.Core.Path.{_≡_, sym, ap, ap₂, _∙_}
 use mathlib.Core.List.{List}
-use lib.IntN.{ℤ, pos, _+ℤ_, +ℤ-idr}
-use Rattle.rules.specs.Amount.{amountOf, isAddable}
-use Rattle.rules.specs.Table.{highest, parentOf, pendingWord, pendingSum, ownAddsWord, ownAdds, isCommitted}
+use lib.IntN.{ℤ, pos, _+ℤ_, +ℤ-idr, +ℤ-assoc, +ℤ-comm}
+use Rattle.rules.specs.Amount.{amountOf}
+use Rattle.rules.specs.Table.{highest, pendingWord, pendingSum, ownAddsWord, ownAdds, keptWord, keptSum, totalOf}
 use Rattle.rules.specs.Sound.{IsGiven}
-use Rattle.rules.proofs.Tree.Sums.{add-behind}
-use Rattle.rules.proofs.Tree.Brought.{brings-same, same-brought}
-use Rattle.rules.proofs.Tree.Carried.{pendings, fromChildren, Carried}
+use Rattle.rules.proofs.Tree.Carried.{Carried}
 
--- action m's pending sum and its own adds have grown by the same, which an event may add
+-- what is added to the first of two is added to both
+add-behind : (a b z : ℤ) → (a +ℤ z) +ℤ b ≡ (a +ℤ b) +ℤ z
+add-behind a b z = +ℤ-assoc a z b ∙ ap (λ y. a +ℤ y) (+ℤ-comm z b) ∙ sym (+ℤ-assoc a b z)
+
+-- action m's pending sum and its own adds have grown by the same
 pub record GrowAlike (w v : List ℕ) (k m : ℕ) : Type 0 where
   pub by : ℤ
-  pub addable : isAddable by ≡ true
   pub pending : pendingSum v m k ≡ pendingSum w m k +ℤ by
   pub own : ownAdds v m k ≡ ownAdds w m k +ℤ by
 
 -- so they have where neither word changed
 pub grow-nothing :
     (w v : List ℕ) (k m : ℕ) → pendingWord v m k ≡ pendingWord w m k → ownAddsWord v m k ≡ ownAddsWord w m k → GrowAlike w v k m
-unfolding isAddable
 grow-nothing w v k m pending own =
     record {
       by = pos 0;
-      addable = refl;
       pending = ap amountOf pending ∙ sym (+ℤ-idr (pendingSum w m k));
       own = ap amountOf own ∙ sym (+ℤ-idr (ownAdds w m k));
     }
 
--- the table v after w: the same actions, parents and committed ones; no sum of these changes, and those of the others grow alike
+-- the table v after w: the same actions and kept sums; their other two sums grow alike
 pub record Quiet (w v : List ℕ) (k : ℕ) : Type 0 where
   pub starts : highest v ≡ highest w
-  pub parents : (m : ℕ) → IsGiven w m → parentOf v m ≡ parentOf w m
-  pub states : (m : ℕ) → IsGiven w m → isCommitted v m ≡ isCommitted w m
-  pub settled : (m : ℕ) → IsGiven w m → isCommitted w m ≡ true → pendingWord v m k ≡ pendingWord w m k
+  pub kept : (m : ℕ) → keptWord v m k ≡ keptWord w m k
   pub grown : (m : ℕ) → IsGiven w m → GrowAlike w v k m
 
 -- .. where no sum changes at all
 pub record Calm (w v : List ℕ) (k : ℕ) : Type 0 where
   pub starts : highest v ≡ highest w
-  pub parents : (m : ℕ) → IsGiven w m → parentOf v m ≡ parentOf w m
-  pub states : (m : ℕ) → IsGiven w m → isCommitted v m ≡ isCommitted w m
+  pub kept : (m : ℕ) → keptWord v m k ≡ keptWord w m k
   pub pendings : (m : ℕ) → IsGiven w m → pendingWord v m k ≡ pendingWord w m k
   pub owns : (m : ℕ) → IsGiven w m → ownAddsWord v m k ≡ ownAddsWord w m k
 
@@ -51,9 +46,7 @@ pub calm-quiet : {w v : List ℕ} {k : ℕ} → Calm w v k → Quiet w v k
 calm-quiet {w} {v} {k} calm =
     record {
       starts = calm .starts;
-      parents = calm .parents;
-      states = calm .states;
-      settled = λ m h did. calm .pendings m h;
+      kept = calm .kept;
       grown = λ m h. grow-nothing w v k m (calm .pendings m h) (calm .owns m h);
     }
 
@@ -61,18 +54,14 @@ pub quiet-carried : {w v : List ℕ} {k : ℕ} {opening now : ℤ} → Quiet w v
 quiet-carried {w} {v} {k} {opening} quiet was =
     record {
       sums = λ n h. carries n (h .0, rw (quiet .starts) at (h .1));
-      closing = was .closing ∙ ap (λ z. opening +ℤ z) (sym (children-kept 0));
+      closing = was .closing ∙ ap (λ z. opening +ℤ z) (sym (kept-same 0));
     }
   where
-    children-kept : (p : ℕ) → fromChildren v k p ≡ fromChildren w k p
-    children-kept p =
-        same-brought w v (pendings w k) (pendings v k) p (quiet .starts)
-        (λ m h.
-        brings-same w v (pendings w k) (pendings v k) p m (quiet .parents m h) (quiet .states m h)
-        (λ child did. ap amountOf (quiet .settled m h did)))
+    kept-same : (m : ℕ) → keptSum v m k ≡ keptSum w m k
+    kept-same m = ap amountOf (quiet .kept m)
 
-    carries : (n : ℕ) → IsGiven w n → pendingSum v n k ≡ ownAdds v n k +ℤ fromChildren v k n
+    carries : (n : ℕ) → IsGiven w n → pendingSum v n k ≡ totalOf v n k
     carries n h =
         let grown = quiet .grown n h in
         grown .pending ∙ ap (λ y. y +ℤ grown .by) (was .sums n h)
-        ∙ sym (ap₂ _+ℤ_ (grown .own) (children-kept n) ∙ add-behind (ownAdds w n k) (fromChildren w k n) (grown .by))
+        ∙ sym (ap₂ _+ℤ_ (grown .own) (kept-same n) ∙ add-behind (ownAdds w n k) (keptSum w n k) (grown .by))

@@ -1,80 +1,48 @@
--- A start carries the sums on: the new action has added nothing, has no children and has not committed. Assumes nothing.
-use Prim.Native.Nat.{ℕ, _+_, _<_}
+-- A start carries the sums on: the new action has added nothing and nothing is kept of its children, who are none. Assumes
+-- nothing.
+use Prim.Native.Nat.{ℕ}
 use native.Mathlib.Omega.{arith}
-use native.Mathlib.Nat.{add-comm}
-use native.Mathlib.Numerals.{add-one}
-use mathlib.Core.Path.{_≡_, refl, sym, ap, ap₂, _∙_}
+use mathlib.Core.Path.{_≡_, sym}
+use mathlib.Core.Logic.{_≢_}
 use mathlib.Core.List.{List}
-use lib.Dec.{eqb}
-use lib.IntN.{ℤ, pos, _+ℤ_, +ℤ-idr}
+use lib.IntN.{ℤ, pos, +ℤ-idr}
 use Rattle.rules.specs.Card.{IsCharge}
-use Rattle.rules.specs.Amount.{amountOf}
-use Rattle.rules.specs.Table.{width, committed, word, highest, parentField, stateField, pendingField, pendingSum, ownAddsField, ownAdds, actions}
+use Rattle.rules.specs.Table.{pendingField, pendingSum, ownAddsField, keptField, totalOf}
 use Rattle.rules.specs.Sound.{IsGiven, Sound}
-use Rattle.rules.specs.Step.{startTable}
-use Rattle.rules.proofs.Laws.Permitted.{Startable}
-use Rattle.rules.proofs.Sound.Starting.{new, start-highest, start-state, start-pending, start-own-adds, old-row, by-age}
-use Rattle.rules.proofs.Tree.Sums.{addedUp-agree, addedUp-nothing, addedUp-longer}
-use Rattle.rules.proofs.Tree.Brought.{brought, all-brought, brings-same, other-brings-nothing, uncommitted-brings-nothing}
-use Rattle.rules.proofs.Tree.Carried.{pendings, fromChildren, Carried}
+use Rattle.rules.specs.Step.{giveTable}
+use Rattle.rules.proofs.Laws.Amounts.{amount-zero}
+use Rattle.rules.proofs.Laws.Freeing.{Givable}
+use Rattle.rules.proofs.Sound.Giving.{give-head, give-pending, give-own-adds, give-kept}
+use Rattle.rules.proofs.Sound.Starting.{by-age, old-field}
+use Rattle.rules.proofs.Tree.Carried.{Carried}
 
-module _ {w : List ℕ} (s : Sound w) (p k : ℕ) (charge : IsCharge k) (permitted : Startable w p) where
+module _ {w : List ℕ} (s : Sound w) (n p k : ℕ) (charge : IsCharge k) (g : Givable w n) where
   abbrev v : List ℕ
-  v = startTable w p
+  v = giveTable w n p
 
-  old-kept : (m g : ℕ) → IsGiven w m → g < width → word v m g ≡ word w m g
-  old-kept = old-row w p s (permitted .room) (permitted .known) (permitted .alive) (permitted .unqueued)
-
-  brought-kept : (q m : ℕ) → IsGiven w m → brought v (pendings v k) q m ≡ brought w (pendings w k) q m
-  brought-kept q m h =
-      brings-same w v (pendings w k) (pendings v k) q m
-      (old-kept m parentField h (omega arith))
-      (ap (λ x. eqb x committed) (old-kept m stateField h (omega arith)))
-      (λ child did. ap amountOf (old-kept m (pendingField k) h (omega arith)))
-
-  -- the new action is live
-  new-brings : (q : ℕ) → brought v (pendings v k) q (1 + highest w) ≡ pos 0
-  new-brings q =
-      rw (add-comm 1 (highest w))
-      (uncommitted-brings-nothing v (pendings v k) q (new w p) (rw (start-state w p (s .long) (permitted .room)) refl))
-
-  children-kept : (q : ℕ) → fromChildren v k q ≡ fromChildren w k q
-  unfolding actions
-  children-kept q =
-      all-brought v _ q
-      ∙ rw (start-highest w p (s .long) (permitted .room), add-one)
-      (addedUp-longer _ 1 (highest w) (new-brings q)
-      ∙ addedUp-agree _ _ 1 (highest w) (λ m h. brought-kept q m (omega arith)))
-      ∙ sym (all-brought w _ q)
-
-  -- parents are older than their children
-  new-childless : fromChildren w k (new w p) ≡ pos 0
-  unfolding actions
-  new-childless =
-      all-brought w _ (new w p)
-      ∙ addedUp-nothing _ 1 (highest w)
-      (λ m h. other-brings-nothing w (pendings w k) (new w p) m (λ e. omega (arith, s .below m (omega arith))))
-
-  new-own : ownAdds v (new w p) k ≡ amountOf 0
-  new-own = ap amountOf (start-own-adds w p (s .long) (permitted .room) k charge)
-
-  new-carried : pendingSum v (new w p) k ≡ ownAdds v (new w p) k +ℤ fromChildren v k (new w p)
+  new-carried : pendingSum v n k ≡ totalOf v n k
   new-carried =
-      ap amountOf (start-pending w p (s .long) (permitted .room) k charge)
-      ∙ sym (+ℤ-idr (amountOf 0))
-      ∙ sym (ap₂ _+ℤ_ new-own (children-kept (new w p) ∙ new-childless))
+      rw (
+        give-pending w n p (s .long) (g .first) (g .few) k charge,
+        give-own-adds w n p (s .long) (g .first) (g .few) k charge,
+        give-kept w n p (s .long) (g .first) (g .few) k charge,
+        amount-zero,
+      )
+      (sym (+ℤ-idr (pos 0)))
 
   module _ {opening now : ℤ} (was : Carried k opening w now) where
-    old-carried : (n : ℕ) → IsGiven w n → pendingSum v n k ≡ ownAdds v n k +ℤ fromChildren v k n
-    old-carried n h =
-        ap amountOf (old-kept n (pendingField k) h (omega arith))
-        ∙ was .sums n h
-        ∙ sym (ap₂ _+ℤ_ (ap amountOf (old-kept n (ownAddsField k) h (omega arith))) (children-kept n))
+    old-carried : (m : ℕ) → IsGiven w m × (m ≢ n) → pendingSum v m k ≡ totalOf v m k
+    old-carried m old =
+        rw (
+          old-field w n p s g m (pendingField k) old (omega arith) (λ z. omega arith),
+          old-field w n p s g m (ownAddsField k) old (omega arith) (λ z. omega arith),
+          old-field w n p s g m (keptField k) old (omega arith) (λ z. omega arith),
+        )
+        (was .sums m (old .0))
 
     pub start-carried : Carried k opening v now
     start-carried =
         record {
-          sums =
-              by-age w p s (permitted .room) (permitted .known) (permitted .alive) (permitted .unqueued) _ old-carried new-carried;
-          closing = was .closing ∙ ap (λ z. opening +ℤ z) (sym (children-kept 0));
+          sums = by-age w n p s g _ old-carried new-carried;
+          closing = rw (give-head w n p (keptField k) (g .first) (omega arith) (λ z. omega arith)) (was .closing);
         }

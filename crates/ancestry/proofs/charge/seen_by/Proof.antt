@@ -1,10 +1,11 @@
 -- `seen_by` meets its contract. The loop's invariant: the walk has come to `at`, with the pending sums before it summed up
--- (`Summed`). The measure is that action's number, which its parent's is below. Assumes nothing.
+-- (`Summed`). The measure is the moves left to the store. Assumes nothing.
 use native.Mathlib.Omega.{arith}
 use mathlib.Core.Path.{ap, _∙_}
 use borrow.Author.Needs.{needs}
+use Rattle.rules.proofs.Laws.Walking.{movesToStore}
 use Rattle.amounts.specs.Word.{wordAt}
-use Rattle.ancestry.proofs.Summing.{Summed, summed-first, moves-few, room-left, summed-next, summed-last}
+use Rattle.ancestry.proofs.Summing.{Summed, summed-first, moves-few, room-left, nearer, summed-next, summed-last}
 use Rattle.ancestry.proofs.charge.seen_by.Statement.{statement}
 use Rattle.ancestry.proofs.charge.seen_by.Tie as tie
 
@@ -12,13 +13,13 @@ abbrev Inv-loop : tie.InvT-loop
 Inv-loop table base n k at₀ moves₀ sum₀ at moves sum = Summed table base n k at moves sum
 
 abbrev μ-loop : tie.MeasureT-loop
-μ-loop table base n k at₀ moves₀ sum₀ at moves sum = at
+μ-loop table base n k at₀ moves₀ sum₀ at moves sum = movesToStore table at
 
 of-word-requires : tie.Need-of-word-requires Inv-loop μ-loop
 of-word-requires c κs = search needs
 
 loop-holds : tie.Need-loop-holds Inv-loop μ-loop
-loop-holds c = rw (c .of-word .ensures) (summed-first _ _ _ _ (c .before .before .before .pre .0 .known))
+loop-holds c = rw (c .of-word .ensures) (summed-first _ _ _ _ (c .before .before .before .pre .0 .known, c .before .before .before .pre .0 .alive))
 
 pending-requires : tie.Need-pending-requires Inv-loop μ-loop
 pending-requires c κs = search needs
@@ -35,8 +36,8 @@ parent-requires c κs = search needs
 loop-less : tie.Need-loop-less Inv-loop μ-loop
 loop-less c =
     let start = c .before .before .before .before .before .before .before .before in
-    let down = start .pre .0 .sound .below (c .before .before .before .before .loop .at) (omega arith) in
-    omega arith
+    let loop = c .before .before .before .before .loop in
+    rw (c .parent .ensures) (nearer _ _ _ _ (loop .inv) (start .pre .0 .sound) (start .pre .1 .0) (omega (arith, loop .inv .from .0)) (omega arith))
 
 loop-again : tie.Need-loop-again Inv-loop μ-loop
 loop-again c =

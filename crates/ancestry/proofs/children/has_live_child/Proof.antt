@@ -1,4 +1,4 @@
--- `has_live_child` meets its contract: whether any started action is a live child is whether any from `m` on is, `m` the
+-- `has_live_child` meets its contract: whether any action is a live child is whether any from `m` on is, `m` the
 -- action at the loop's head, and the test decides `m` itself. Assumes nothing.
 use Prim.Native.Nat.{_≤_, _-_}
 use native.Mathlib.Nat.{add-sub-cancel}

@@ -12,7 +12,10 @@ returns : tie.Need-returns
 returns c = rw (sym (c .before .is-live .ensures) ∙ not-true _ (c .if1 .taken))
 
 is-at-or-below-requires : tie.Need-is-at-or-below-requires
-is-at-or-below-requires c κs = search needs
+is-at-or-below-requires c κs =
+    let start = c .before .before .before in
+    let alive = sym (c .before .is-live .ensures) ∙ not-false _ (c .if1 .left) in
+    (start .pre .0, (start .pre .1, start .pre .0 .climb (start .args .m) (start .pre .1) alive))
 
 returns-2 : tie.Need-returns-2
 returns-2 c = rw (sym (c .before .before .is-live .ensures) ∙ not-false _ (c .before .if1 .left), ← c .is-at-or-below .ensures)

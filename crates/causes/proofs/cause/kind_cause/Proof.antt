@@ -24,12 +24,12 @@ returns-3 : tie.Need-returns-3
 unfolding kindCauses
 returns-3 c = rw (c .before .if3 .taken) (c .commit-cause .ensures)
 
-busy-cause-requires : tie.Need-busy-cause-requires
-busy-cause-requires c κs = search needs
+enter-cause-requires : tie.Need-enter-cause-requires
+enter-cause-requires c κs = search needs
 
 returns-4 : tie.Need-returns-4
 unfolding kindCauses
-returns-4 c = rw (c .before .if4 .taken) (c .busy-cause .ensures)
+returns-4 c = rw (c .before .if4 .taken) (c .enter-cause .ensures)
 
 account-cause-requires : tie.Need-account-cause-requires
 account-cause-requires c κs = search needs
@@ -54,7 +54,7 @@ kind-cause-spec =
     returns-2
     commit-cause-requires
     returns-3
-    busy-cause-requires
+    enter-cause-requires
     returns-4
     account-cause-requires
     returns-5)

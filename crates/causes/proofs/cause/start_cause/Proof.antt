@@ -1,10 +1,9 @@
 -- `start_cause` meets its contract: each exit gives the first of the three causes that applies. Assumes nothing.
 use borrow.Author.Needs.{needs}
-use borrow.Author.Tests.{le-leb, lt-leb, ne-eqb, not-true, not-false}
+use borrow.Author.Tests.{eq-eqb, ne-eqb, not-true, not-false}
 use mathlib.Core.Path.{_≡_, sym, _∙_}
 use mathlib.Core.Logic.{⊎-elim}
 use mathlib.Core.Bool.{false}
-use Rattle.rules.specs.Table.{mostActions}
 use Rattle.rules.specs.Cause.{isNotLive}
 use Rattle.causes.specs.Groups.{startCauses}
 use Rattle.causes.proofs.cause.start_cause.Statement.{statement}
@@ -29,12 +28,12 @@ parent-alive c =
     (λ w. rw (w .left))
     (c .if1 .came)
 
-highest-requires : tie.Need-highest-requires
-highest-requires c κs = search needs
+next-number-requires : tie.Need-next-number-requires
+next-number-requires c κs = search needs
 
 returns-2 : tie.Need-returns-2
 unfolding startCauses
-returns-2 c = rw (parent-alive (c .before .before), ← c .before .highest .ensures, le-leb mostActions _ (c .if3 .taken))
+returns-2 c = rw (parent-alive (c .before .before), ← c .before .next-number .ensures, eq-eqb _ 0 (c .if3 .taken))
 
 queued-cause-requires : tie.Need-queued-cause-requires
 queued-cause-requires c κs = search needs
@@ -44,8 +43,8 @@ unfolding startCauses
 returns-3 c =
     rw (
       parent-alive (c .before .before .before),
-      ← c .before .before .highest .ensures,
-      lt-leb mostActions _ (c .before .if3 .left),
+      ← c .before .before .next-number .ensures,
+      ne-eqb _ 0 (c .before .if3 .left),
     )
     (c .queued-cause .ensures)
 
@@ -55,7 +54,7 @@ start-cause-spec =
     (tie.spec
     is-live-requires
     returns
-    highest-requires
+    next-number-requires
     returns-2
     queued-cause-requires
     returns-3)

@@ -1,18 +1,20 @@
--- `pass` leaves what `committedUnder` says: the copies, then the end, then the sets joined where the parent is an action. The end
--- goes by what no copy changes. In a sound table a parent is below its child, so the two have different rows. Assumes nothing.
+-- `pass` leaves what `committedUnder` says: the copies, then the end, then the kept sums, then the sets joined where the parent is
+-- an action. The end and the kept sums go by what no copy changes. A live action is not its own parent, so the two have different
+-- rows. Assumes nothing.
 use native.Mathlib.Omega.{arith}
 use mathlib.Core.Path.{ap, _∙_}
 use borrow.Author.Needs.{needs}
 use borrow.Author.Tests.{eq-eqb, ne-eqb}
 use Rattle.rules.specs.Table.{counter, parentOf, kindOf}
-use Rattle.rules.specs.Ledger.{Ledger}
+use Rattle.rules.specs.Ledger.{Ledger, ledgerOf}
 use Rattle.rules.specs.Commit.{commitTime, committedUnder}
 use Rattle.rules.proofs.Laws.Kinds.{kind-known}
+use Rattle.rules.proofs.Laws.Walking.{live-no-own-parent}
 use Rattle.rules.proofs.Copies.Whole.{copied-own-counter, copied-time}
 use Rattle.rules.proofs.Sound.Soundness.{counter-at-most}
 use Rattle.commits.proofs.commit.pass.Statement.{statement}
 use Rattle.commits.proofs.commit.pass.Tie as tie
-use Rattle.commits.proofs.FittingSums.{sums-fit}
+use Rattle.commits.proofs.FittingSums.{sums-fit, kept-fit}
 
 parent-requires : tie.Need-parent-requires
 parent-requires c κs = search needs
@@ -22,12 +24,13 @@ copy-down-requires c κs =
     let parent = c .before .before .before .parent in
     let start = c .before .before .before .before .before .before .before .before in
     let sound = start .pre .0 in
-    let below = sound .below (start .args .n) (start .pre .1 .0) in
+    let known = sound .known (start .args .n) (start .pre .1 .0 .0) in
+    let apart = live-no-own-parent sound (start .args .n) (start .pre .1 .0 .0) (start .pre .1 .0 .1) in
     let fit = sums-fit (start .args .table .now) (start .args .base .now) (start .args .n) (start .pre .1 .1 .1) in (
       search needs,
       (
-        omega (arith, below, parent .ensures, sound .few, sound .long),
-        ((search needs, omega (arith, below, parent .ensures)), (search needs, rw (parent .ensures) fit)),
+        omega (arith, known, parent .ensures, sound .few, sound .long),
+        ((search needs, omega (arith, apart, parent .ensures)), (search needs, rw (parent .ensures) fit)),
       ),
     )
 
@@ -41,13 +44,36 @@ end-requires c κs =
     let known = kind-known (parentOf (start .args .table .now) n) in
     (search needs, rw kept (counter-at-most (start .args .table .now) (start .pre .0) _ known))
 
-join-sets-requires : tie.Need-join-sets-requires
-join-sets-requires c κs =
-    let copied = c .before .before .before .before .before .before .before .before .before .before .before .before in
+keep-totals-requires : tie.Need-keep-totals-requires
+keep-totals-requires c κs =
+    let ended = c .before .before .before in
+    let copied = ended .before .before .before .before .before .before .before .before in
     let parent = copied .before .before .before .before .parent in
     let start = copied .before .before .before .before .before .before .before .before .before in
-    let below = start .pre .0 .below (start .args .n) (start .pre .1 .0) in
-    omega (arith, below, parent .ensures, start .pre .0 .few, start .pre .0 .long)
+    let args = start .args in
+    let entry = ledgerOf (args .table .now) (args .base .now) (args .shadow .now) in
+    let sound = start .pre .0 in
+    let known = sound .known (args .n) (start .pre .1 .0 .0) in
+    let apart = live-no-own-parent sound (args .n) (start .pre .1 .0 .0) (start .pre .1 .0 .1) in
+    let table = ap (λ (t : Ledger). t .table) (copied .copy-down .ensures) in
+    let fit = kept-fit entry (args .n) (start .pre .1 .0 .0 .0) (start .pre .1 .1 .1) in (
+      search needs,
+      (
+        omega (arith, known, parent .ensures, sound .few, sound .long),
+        (omega (arith, apart, parent .ensures), rw (ended .end .ensures .1, table, parent .ensures) fit),
+      ),
+    )
+
+join-sets-requires : tie.Need-join-sets-requires
+join-sets-requires c κs =
+    let ended = c .before .before .before .before .before .before .before .before in
+    let copied = ended .before .before .before .before .before .before .before .before in
+    let parent = copied .before .before .before .before .parent in
+    let start = copied .before .before .before .before .before .before .before .before .before in
+    let sound = start .pre .0 in
+    let known = sound .known (start .args .n) (start .pre .1 .0 .0) in
+    let apart = live-no-own-parent sound (start .args .n) (start .pre .1 .0 .0) (start .pre .1 .0 .1) in
+    omega (arith, known, apart, parent .ensures, sound .few, sound .long)
 
 same-length : tie.Need-same-length
 same-length c = search needs
@@ -63,16 +89,18 @@ unfolding committedUnder
 returns c =
     let joined = c .before .before in
     let tested = joined .before .before in
-    let ended = tested .before .before .before in
+    let kept = tested .before .before .before in
+    let ended = kept .before .before .before .before in
     let copied = ended .before .before .before .before .before .before .before .before in
     let parent = copied .before .before .before .before .parent in
     let n = copied .before .before .before .before .before .before .before .before .before .args .n in
-    let kept = ap (λ (t : Ledger). commitTime (t .table) n) (copied .copy-down .ensures) ∙ copied-time _ _ _ in (
-      rw (ended .end .ensures .0) kept,
+    let time = ap (λ (t : Ledger). commitTime (t .table) n) (copied .copy-down .ensures) ∙ copied-time _ _ _ in (
+      rw (ended .end .ensures .0) time,
       rw (
         ← parent .ensures,
         ne-eqb (parent .result) 0 (tested .if1 .taken),
         joined .join-sets .ensures,
+        kept .keep-totals .ensures,
         ended .end .ensures .1,
         ← copied .copy-down .ensures,
       ),
@@ -90,15 +118,17 @@ same-length-6 c = search needs
 returns-2 : tie.Need-returns-2
 unfolding committedUnder
 returns-2 c =
-    let ended = c .before .before .before in
+    let kept = c .before .before .before in
+    let ended = kept .before .before .before .before in
     let copied = ended .before .before .before .before .before .before .before .before in
     let parent = copied .before .before .before .before .parent in
     let n = copied .before .before .before .before .before .before .before .before .before .args .n in
-    let kept = ap (λ (t : Ledger). commitTime (t .table) n) (copied .copy-down .ensures) ∙ copied-time _ _ _ in (
-      rw (ended .end .ensures .0) kept,
+    let time = ap (λ (t : Ledger). commitTime (t .table) n) (copied .copy-down .ensures) ∙ copied-time _ _ _ in (
+      rw (ended .end .ensures .0) time,
       rw (
         ← parent .ensures,
         eq-eqb (parent .result) 0 (c .if1 .left),
+        kept .keep-totals .ensures,
         ended .end .ensures .1,
         ← copied .copy-down .ensures,
       ),
@@ -111,6 +141,7 @@ pass-spec =
     parent-requires
     copy-down-requires
     end-requires
+    keep-totals-requires
     join-sets-requires
     same-length
     same-length-2

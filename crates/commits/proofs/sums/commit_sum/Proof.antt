@@ -1,5 +1,5 @@
--- `commit_sum` adds n's pending sum to what its parent holds, as `commitSum` does; in a sound table a parent is below its child,
--- so it has a row. Assumes nothing.
+-- `commit_sum` adds n's pending sum to what its parent holds, as `commitSum` does; in a sound table a parent has a row.
+-- Assumes nothing.
 use native.Mathlib.Omega.{arith}
 use mathlib.Core.Path.{_∙_}
 use borrow.Author.Needs.{needs}
@@ -14,8 +14,8 @@ parent-requires c κs = search needs
 held-word-requires : tie.Need-held-word-requires
 held-word-requires c κs =
     let start = c .before .before .before in
-    let below = start .pre .0 .0 .below (start .args .n) (start .pre .0 .1) in
-    omega (arith, below, c .parent .ensures, start .pre .0 .0 .few, start .pre .0 .0 .long)
+    let known = start .pre .0 .0 .known (start .args .n) (start .pre .0 .1) in
+    omega (arith, known, c .parent .ensures, start .pre .0 .0 .few, start .pre .0 .0 .long)
 
 of-word-requires : tie.Need-of-word-requires
 of-word-requires c κs = search needs

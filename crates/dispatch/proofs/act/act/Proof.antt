@@ -55,8 +55,7 @@ may-turn c other =
 start-requires : tie.Need-start-requires
 start-requires c κs =
     let entry = c .before .before .before .before .before .before in
-    let sound = table-sound entry in
-    (record { long = sound .long; few = sound .few }, event-allowed entry .room (eq-eqb _ startCode (c .before .if1 .taken)))
+    (table-sound entry, event-allowed entry .room (eq-eqb _ startCode (c .before .if1 .taken)))
 
 same-length : tie.Need-same-length
 same-length c = search needs
@@ -79,6 +78,7 @@ read-requires c κs =
       record {
         sound = table-sound entry;
         known = event .numberKnown;
+        alive = event .alive;
         account = event .accountKnown (or-inl _ (or-inl (isWrite (eventAt entry)) reads));
       },
       entry .pre .1 .0 .baseFits,
@@ -132,7 +132,8 @@ returns-3 c =
 commit-requires : tie.Need-commit-requires
 commit-requires c κs =
     let entry = c .before .before .before .before .before .before .before .before .before .before .before in
-    (table-sound entry, (own-number entry (c .before .before .before .before .before .before .if1 .left), entry .pre .1 .0))
+    let own = own-number entry (c .before .before .before .before .before .before .if1 .left) in
+    (table-sound entry, ((own, event-allowed entry .alive (own .0)), entry .pre .1 .0))
 
 same-length-6 : tie.Need-same-length-6
 same-length-6 c = search needs

@@ -48,7 +48,7 @@ returns-3 c =
     let seen = c .before .before in
     let start = seen .before .before .before .before in
     let charge = le-leb firstCharge (start .args .k) (seen .before .if1 .left) in
-    let up = sound-climbs (start .pre .0 .sound) (start .args .n) (start .pre .0 .known) in
+    let up = sound-climbs (start .pre .0 .sound) (start .args .n) (start .pre .0 .known, start .pre .0 .alive) in
     let fits = sym (flagged seen) ∙ not-false (seen .seen-by .result .fits) (c .if2 .left) in
     rw (charge, fits, nearest-charge _ _ charge _ up)
     (ap (λ moves. record { cause = 0; holder = 0; moves = moves }) (ap (λ s. s .moves) (seen .seen-by .ensures)))

@@ -75,7 +75,7 @@ late-sight-requires : tie.Need-late-sight-requires
 late-sight-requires c κs =
     let read = early-allowed _ _ (none-early c) in
     let (fits, sound) = accepted (c .before .before .before) in
-    (record { sound = sound; known = read .numberKnown; account = read .accountKnown refl }, fits .baseFits)
+    (record { sound = sound; known = read .numberKnown; alive = read .alive; account = read .accountKnown refl }, fits .baseFits)
 
 returns-3 : tie.Need-returns-3
 returns-3 c =

@@ -1,11 +1,11 @@
 -- `abort_live` meets its contract. The loop's invariant: the abort has come to action `m`, with `found` aborted so far
--- (`Reached`). The measure is what is left of the started actions. Assumes nothing.
+-- (`Reached`). The measure is what is left of the actions. Assumes nothing.
 use Prim.Native.Nat.{_-_}
 use native.Mathlib.Omega.{arith}
 use mathlib.Core.Path.{sym, _∙_}
 use mathlib.Core.Logic.{⊎-elim}
 use borrow.Author.Needs.{needs}
-use Rattle.events.proofs.AbortMarks.{Reached, reached-first, parents-below-kept, known-kept, found-few, reached-over, reached-here, reached-last}
+use Rattle.events.proofs.AbortMarks.{Reached, reached-first, live-climb-kept, known-kept, found-few, reached-over, reached-here, reached-last}
 use Rattle.events.proofs.abort.abort_live.Statement.{statement}
 use Rattle.events.proofs.abort.abort_live.Tie as tie
 
@@ -28,7 +28,7 @@ is-aborted-by-requires : tie.Need-is-aborted-by-requires Inv-loop μ-loop
 is-aborted-by-requires c κs =
     let start = c .before .before .before .before .before .before in
     let reached = c .before .before .loop .inv in
-    (parents-below-kept _ _ reached (start .pre), known-kept _ _ reached (omega arith))
+    (live-climb-kept _ _ reached (start .pre), (reached .first, known-kept _ _ reached (omega arith)))
 
 set-state-requires : tie.Need-set-state-requires Inv-loop μ-loop
 set-state-requires c κs = search needs

@@ -1,5 +1,5 @@
 -- `enter` leaves the table as it was where the account is in the read set or the reader has a card for it, and else puts both
--- counters as the read's times. The counters of a sound table are at most 64, so an entry fits a word. Assumes nothing.
+-- counters as the read's times. The counters of a sound table have a bound, so an entry fits a word. Assumes nothing.
 use native.Mathlib.Omega.{arith}
 use mathlib.Core.Path.{_≡_, refl, sym, _∙_}
 use mathlib.Core.Logic.{⊎-elim}

@@ -65,7 +65,7 @@ returns-3 c =
     let seen = tested .before .before in
     let start = seen .before .before .before .before .before in
     let charge = le-leb firstCharge (start .args .k) (seen .before .before .if1 .left) in
-    let up = sound-climbs (start .pre .0 .sound) (start .args .n) (start .pre .0 .known) in
+    let up = sound-climbs (start .pre .0 .sound) (start .args .n) (start .pre .0 .known, start .pre .0 .alive) in
     let fits = sym (flagged seen) ∙ not-false (seen .seen-by .result .fits) (tested .if2 .left) in
     let found = seen .seen-by .ensures in
     rw (charge, fits, nearest-charge _ _ charge _ up)

@@ -1,62 +1,27 @@
--- `start` puts the fields of the new action one by one, in the order of `startTable`. Assumes nothing.
+-- `start` gives the number that the table has free. Assumes nothing.
 use borrow.Author.Needs.{needs}
-use Rattle.rules.specs.Step.{startTable}
+use Rattle.rules.proofs.Laws.Freeing.{next-givable}
 use Rattle.events.proofs.start.start.Statement.{statement}
 use Rattle.events.proofs.start.start.Tie as tie
 
-highest-requires : tie.Need-highest-requires
-highest-requires c κs = search needs
+next-number-requires : tie.Need-next-number-requires
+next-number-requires c κs = search needs
 
-add-n : tie.Need-add-n
-add-n c = search needs
-
-set-highest-requires : tie.Need-set-highest-requires
-set-highest-requires c κs = search needs
-
-set-parent-requires : tie.Need-set-parent-requires
-set-parent-requires c κs = search needs
-
-set-state-requires : tie.Need-set-state-requires
-set-state-requires c κs = search needs
-
-clear-end-requires : tie.Need-clear-end-requires
-clear-end-requires c κs = search needs
-
-clear-own-adds-requires : tie.Need-clear-own-adds-requires
-clear-own-adds-requires c κs = search needs
-
-clear-sets-requires : tie.Need-clear-sets-requires
-clear-sets-requires c κs = search needs
+give-requires : tie.Need-give-requires
+give-requires c κs =
+    let start = c .before .before .before .before in
+    let sound = start .pre .0 in
+    let g = next-givable _ (sound .few) (start .pre .1) in
+    rw (c .before .next-number .ensures) (record { long = sound .long; few = sound .few }, (g .first, g .few))
 
 same-length : tie.Need-same-length
 same-length c = search needs
 
 returns : tie.Need-returns
-unfolding startTable
 returns c =
-    let emptied = c .before .before in
-    let unadded = emptied .before .before .before .before in
-    let ended = unadded .before .before .before .before in
-    let lives = ended .before .before .before .before in
-    let placed = lives .before .before .before .before in
-    let counted = placed .before .before .before .before in
-    let last = counted .before .before .highest .ensures in (
-      rw last,
-      rw (← last, ← counted .set-highest .ensures, ← placed .set-parent .ensures, ← lives .set-state .ensures, ← ended .clear-end .ensures, ← unadded .clear-own-adds .ensures)
-          (emptied .clear-sets .ensures),
-    )
+    let given = c .before .before in
+    let number = given .before .before .next-number .ensures in
+    (number, rw (← number) (given .give .ensures))
 
 pub start-spec : {M : Type 1} → statement M
-start-spec =
-    tie.close
-    (tie.spec
-    highest-requires
-    add-n
-    set-highest-requires
-    set-parent-requires
-    set-state-requires
-    clear-end-requires
-    clear-own-adds-requires
-    clear-sets-requires
-    same-length
-    returns)
+start-spec = tie.close (tie.spec next-number-requires give-requires same-length returns)

@@ -21,7 +21,7 @@ abort-live-requires c κs =
     let out = c .before .before .before in
     let start = out .before .before .before .before .before in
     let sound = out-sound (start .pre .0) (start .args .n) in
-    rw (out .take-out-of-both .ensures) (record { long = sound .long; few = sound .few; below = sound .below })
+    rw (out .take-out-of-both .ensures) (record { long = sound .long; few = sound .few; known = sound .known; climb = sound .climb })
 
 leave-both-requires : tie.Need-leave-both-requires
 unfolding dropped

@@ -20,7 +20,7 @@ take-out-requires-2 c κs =
     let sound = half-sound (start .pre) (start .args .n) in
     rw (tops .take-out .ensures) (
       sound-line sound subKind (omega arith),
-      (record { long = sound .long; few = sound .few; below = sound .below }, are-known sound subKind (omega arith)),
+      (record { long = sound .long; few = sound .few; known = sound .known; climb = sound .climb }, are-known sound subKind (omega arith)),
     )
 
 same-length : tie.Need-same-length

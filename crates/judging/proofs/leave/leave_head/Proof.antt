@@ -29,8 +29,8 @@ finish-requires c κs =
     let known = start .pre .1 .0 in
     let ready = start .pre .1 .1 .1 in
     let sound = head-out-sound (start .args .h) known (ledgerAt start) (start .pre .0) ready in
-    let own = head-committable (start .args .h) known (ledgerAt start) (start .pre .0) ready .own in
-    rw (out .take-out .ensures, found .head .ensures) (sound, (own, start .pre .1 .1 .0))
+    let free = head-committable (start .args .h) known (ledgerAt start) (start .pre .0) ready in
+    rw (out .take-out .ensures, found .head .ensures) (sound, ((free .own, free .alive), start .pre .1 .1 .0))
 
 same-length : tie.Need-same-length
 same-length c = search needs

@@ -12,8 +12,8 @@ use Rattle.listing.proofs.lines.put_listing.Tie as tie
 put-lines-requires : tie.Need-put-lines-requires
 put-lines-requires c κs = search needs
 
-highest-requires : tie.Need-highest-requires
-highest-requires c κs = search needs
+count-starts-requires : tie.Need-count-starts-requires
+count-starts-requires c κs = search needs
 
 top-counter-requires : tie.Need-top-counter-requires
 top-counter-requires c κs = search needs
@@ -29,7 +29,7 @@ put-end-requires c κs =
     omega (
       arith,
       listing-fits (given .args .answers .now) (given .args .count)
-          (begun .highest .result) (counted .top-counter .result) (c .before .sub-counter .result) (given .pre .0 .0),
+          (begun .count-starts .result) (counted .top-counter .result) (c .before .sub-counter .result) (given .pre .0 .0),
     )
 
 same-length : tie.Need-same-length
@@ -43,7 +43,7 @@ returns c =
     let tops = subs .before in
     let begun = tops .before in
     let lined = begun .before .before .before in
-    rw (sym (begun .highest .ensures), sym (tops .top-counter .ensures), sym (subs .sub-counter .ensures))
+    rw (sym (begun .count-starts .ensures), sym (tops .top-counter .ensures), sym (subs .sub-counter .ensures))
     (put-front _ _ _ (lined .put-lines .ensures) (ended .put-end .ensures))
 
 pub put-listing-spec : {M : Type 1} → statement M
@@ -51,7 +51,7 @@ put-listing-spec =
     tie.close
     (tie.spec
     put-lines-requires
-    highest-requires
+    count-starts-requires
     top-counter-requires
     sub-counter-requires
     put-end-requires

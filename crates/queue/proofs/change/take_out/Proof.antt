@@ -5,7 +5,7 @@ use native.Mathlib.Omega.{arith}
 use mathlib.Core.Logic.{⊎-elim}
 use borrow.Author.Needs.{needs}
 use Rattle.rules.proofs.Laws.Negated.{failed, held}
-use Rattle.queue.proofs.Closing.{Closed, closed-first, parents-below-kept, known-kept, closed-over, closed-here, closed-last}
+use Rattle.queue.proofs.Closing.{Closed, closed-first, live-climb-kept, known-kept, closed-over, closed-here, closed-last}
 use Rattle.queue.proofs.change.take_out.Statement.{statement}
 use Rattle.queue.proofs.change.take_out.Tie as tie
 
@@ -32,7 +32,7 @@ is-aborted-by-requires c κs =
     let start = c .before .before .before .before .before .before .before .before in
     let closed = c .before .before .before .before .loop .inv in
     let number = c .before .entry-number .ensures in (
-      parents-below-kept _ _ _ closed (start .pre .0 .known) (start .pre .1 .0),
+      live-climb-kept _ _ _ closed (start .pre .0 .known) (start .pre .1 .0),
       known-kept _ _ _ closed (start .pre .0 .known) (start .pre .1 .0) (start .pre .1 .1) (omega arith) number,
     )
 

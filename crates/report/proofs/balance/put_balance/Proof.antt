@@ -5,8 +5,9 @@ use mathlib.Core.Path.{ap, _∙_}
 use lib.ListN.{length-set}
 use borrow.Author.Needs.{needs}
 use Rattle.rules.specs.Tree.{balanceWords}
+use Rattle.rules.proofs.Laws.Amounts.{word-read-back}
 use Rattle.amounts.specs.Word.{wordAt}
-use Rattle.report.proofs.Fitting.{store-word, top-word}
+use Rattle.report.proofs.Fitting.{store-word}
 use Rattle.report.proofs.balance.put_balance.Statement.{statement}
 use Rattle.report.proofs.balance.put_balance.Tie as tie
 
@@ -31,8 +32,8 @@ mul-report-2 c = search needs
 slice-write-report-2 : tie.Need-slice-write-report-2
 slice-write-report-2 c = simp length-set (omega arith)
 
-top-sum-requires : tie.Need-top-sum-requires
-top-sum-requires c κs = search needs
+kept-requires : tie.Need-kept-requires
+kept-requires c κs = search needs
 
 add-report-2 : tie.Need-add-report-2
 add-report-2 c = search needs
@@ -75,8 +76,8 @@ returns c =
       add-three (args .at),
       store-word (args .opening .now) (args .k) (opened .word-at .result) opening-word (omega arith),
       store-word (args .base .now) (args .k) (c .word-at2 .result) closing-word (omega arith),
-      ← top-word (start .pre .0) (args .k) (start .pre .1 .1 .0),
-      ← c .before .before .top-sum .ensures,
+      ← c .before .before .kept .ensures,
+      word-read-back (c .before .before .kept .result) (omega arith),
     )
 
 pub put-balance-spec : {M : Type 1} → statement M
@@ -90,7 +91,7 @@ put-balance-spec =
     add-report
     mul-report-2
     slice-write-report-2
-    top-sum-requires
+    kept-requires
     add-report-2
     mul-report-3
     slice-write-report-3

@@ -26,7 +26,9 @@ unfolding chargeAccounts
 loop-holds c = (omega arith, omega arith, refl)
 
 figures-fit-requires : tie.Need-figures-fit-requires Inv-loop μ-loop
-figures-fit-requires c κs = (c .before .before .before .pre, omega (arith, c .before .loop .inv))
+figures-fit-requires c κs =
+    let sound = c .before .before .before .pre in
+    (record { long = sound .long; few = sound .few }, omega (arith, c .before .loop .inv))
 
 returns : tie.Need-returns Inv-loop μ-loop
 returns c =

@@ -1,9 +1,12 @@
 -- `put_account` puts the own adds and the total, whose words stand for them. Assumes nothing.
 use native.Mathlib.Numerals.{add-one}
 use native.Mathlib.Omega.{arith}
+use mathlib.Core.Path.{ap, _∙_}
 use borrow.Author.Needs.{needs}
 use lib.ListN.{length-set}
-use Rattle.report.proofs.Fitting.{own-word, total-word}
+use Rattle.rules.specs.Amount.{isAmount}
+use Rattle.rules.proofs.Laws.Amounts.{word-read-back}
+use Rattle.amounts.proofs.Sums.{word-of-sum}
 use Rattle.report.proofs.figures.put_account.Statement.{statement}
 use Rattle.report.proofs.figures.put_account.Tie as tie
 
@@ -35,12 +38,13 @@ returns : tie.Need-returns
 returns c =
     let start = c .before .before .before .before in
     let args = start .args in
+    let fits = start .pre .0 .totals (args .n) (args .k) (start .pre .1 .0 .0) (start .pre .1 .0 .1) in
     rw (
       add-one (args .at),
-      own-word (args .table .now) (args .n) (args .k) (omega (arith, c .before .own-adds .ensures)),
-      ← total-word (start .pre .0) (args .n) (args .k) (start .pre .1 .0 .0) (start .pre .1 .0 .1),
-      ← c .before .own-adds .ensures,
       ← c .total .ensures,
+      word-of-sum (c .total .result) (omega arith) (ap isAmount (c .total .ensures) ∙ fits),
+      ← c .before .own-adds .ensures,
+      word-read-back (c .before .own-adds .result) (omega arith),
     )
 
 pub put-account-spec : {M : Type 1} → statement M

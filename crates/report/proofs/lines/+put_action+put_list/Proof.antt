@@ -7,7 +7,9 @@ use mathlib.Core.List.{[], _∷_}
 use borrow.Fn.Kinds.{In}
 use borrow.Fn.PlainCycle.{Measures, is, falls, and}
 use Rattle.rules.specs.Table.{mostActions}
+use Rattle.rules.specs.Sound.{IsGiven}
 use Rattle.rules.proofs.Laws.Negated.{failed, held}
+use Rattle.rules.proofs.Tree.Shown.{child-shown}
 use Rattle.report.specs.Lined.{lineAtDepth, actionLines, linesFrom}
 use Rattle.report.proofs.Lining.{lined-none, lined-one, lined-both, lined-length, room-first, room-then, lines-done, lines-here, lines-next, line-first, lines-of-last, lines-of-action}
 use Rattle.rows.proofs.fields.highest.Reads as highest
@@ -59,6 +61,11 @@ put-action-put-line-requires t c κs =
     let start = c .before .before .before in
     (start .pre .1 .0, (start .pre .1 .1 .0, line-first _ _ _ _ (start .pre .1 .1 .1 .1)))
 
+put-action-mul-put-line : (t : ℕ) → put-action-lts.Need-mul-put-line (action-calls t) (put-action-at t) put-action.Post
+put-action-mul-put-line t c =
+    let start = c .before .before .before in
+    omega (arith, line-first _ _ _ _ (start .pre .1 .1 .1 .1), start .pre .1 .1 .1 .1 .whole)
+
 put-action-add-next : (t : ℕ) → put-action-lts.Need-add-next (action-calls t) (put-action-at t) put-action.Post
 put-action-add-next t c =
     let start = c .before .before .before .before .before .before in
@@ -92,10 +99,13 @@ put-action-put-list-requires t c κs =
       (
         start .pre .1 .0,
         (
-          omega arith,
+          start .pre .1 .1 .0 .1,
           (
-            omega (arith, start .pre .1 .1 .1 .0),
-            room-then (lineAtDepth (args .depth) (args .n) ∷ []) under (rw lines at (start .pre .1 .1 .1 .1)) _ (lined-length _ first) _ (first .behind),
+            omega arith,
+            (
+              omega (arith, start .pre .1 .1 .1 .0),
+              room-then (lineAtDepth (args .depth) (args .n) ∷ []) under (rw lines at (start .pre .1 .1 .1 .1)) _ (lined-length _ first) _ (first .counted),
+            ),
           ),
         ),
       ),
@@ -136,7 +146,7 @@ put-list-is-child-requires t c κs =
 put-list-add-put-list : (t : ℕ) → put-list-lts.Need-add-put-list (list-calls t) (put-list-at t) put-list.Post
 put-list-add-put-list t c =
     let start = c .before .before .before .before .before .before .before in
-    omega (arith, start .pre .1 .1 .0, start .pre .1 .0 .sound .few)
+    omega (arith, start .pre .1 .1 .1 .0, start .pre .1 .0 .sound .few)
 
 put-list-put-list-requires : (t : ℕ) → put-list-lts.Need-put-list-requires (list-calls t) (put-list-at t) put-list.Post
 put-list-put-list-requires t c κs =
@@ -145,7 +155,7 @@ put-list-put-list-requires t c κs =
     let within = rw (c .before .before .before .before .highest .ensures) at (c .before .before .before .if1 .left) in
     let isnt = failed (c .before .before .is-child .ensures) (c .before .if2 .taken) in
     let lines = lines-next (args .levels) (args .table .now) (args .depth) (args .p) (args .i) (omega (arith, within)) isnt in
-    (omega (arith, within, start .pre .1 .0 .sound .few), (start .pre .1 .0, (omega (arith, within), (start .pre .1 .1 .1 .0, rw lines at (start .pre .1 .1 .1 .1)))))
+    (omega (arith, within, start .pre .1 .0 .sound .few), (start .pre .1 .0, (start .pre .1 .1 .0, (omega (arith, within), (start .pre .1 .1 .1 .1 .0, rw lines at (start .pre .1 .1 .1 .1 .1))))))
 
 put-list-same-length : (t : ℕ) → put-list-lts.Need-same-length (list-calls t) (put-list-at t) put-list.Post
 put-list-same-length t c = lined-length _ (c .before .before .put-list .ensures)
@@ -165,12 +175,14 @@ put-list-put-action-requires t c κs =
     let within = rw (c .before .before .before .before .highest .ensures) at (c .before .before .before .if1 .left) in
     let is = held (c .before .before .is-child .ensures) (c .before .if2 .left) in
     let lines = lines-here (args .levels) (args .table .now) (args .depth) (args .p) (args .i) (omega (arith, within)) is in
-    (omega (arith, within, start .pre .1 .0 .sound .few), (start .pre .1 .0, (omega (arith, within, start .pre .1 .1 .0), (start .pre .1 .1 .1 .0, room-first _ _ (rw lines at (start .pre .1 .1 .1 .1))))))
+    let begun : IsGiven (args .table .now) (args .i) = omega (arith, within, start .pre .1 .1 .1 .0) in
+    let shown = child-shown (start .pre .1 .0 .sound) (args .p) (args .i) begun is (start .pre .1 .1 .0) in
+    (omega (arith, within, start .pre .1 .0 .sound .few), (start .pre .1 .0, ((begun, shown), (start .pre .1 .1 .1 .1 .0, room-first _ _ (rw lines at (start .pre .1 .1 .1 .1 .1))))))
 
 put-list-add-put-list-2 : (t : ℕ) → put-list-lts.Need-add-put-list-2 (list-calls t) (put-list-at t) put-list.Post
 put-list-add-put-list-2 t c =
     let start = c .before .before .before .before .before .before .before .before .before .before .before in
-    omega (arith, start .pre .1 .1 .0, start .pre .1 .0 .sound .few)
+    omega (arith, start .pre .1 .1 .1 .0, start .pre .1 .0 .sound .few)
 
 put-list-put-list-requires-2 : (t : ℕ) → put-list-lts.Need-put-list-requires-2 (list-calls t) (put-list-at t) put-list.Post
 put-list-put-list-requires-2 t c κs =
@@ -186,10 +198,13 @@ put-list-put-list-requires-2 t c κs =
       (
         start .pre .1 .0,
         (
-          omega (arith, within),
+          start .pre .1 .1 .0,
           (
-            start .pre .1 .1 .1 .0,
-            room-then here behind (rw lines at (start .pre .1 .1 .1 .1)) _ (lined-length _ put) _ (put .behind),
+            omega (arith, within),
+            (
+              start .pre .1 .1 .1 .1 .0,
+              room-then here behind (rw lines at (start .pre .1 .1 .1 .1 .1)) _ (lined-length _ put) _ (put .counted),
+            ),
           ),
         ),
       ),
@@ -212,6 +227,7 @@ pub +put-action+put-list-spec : {M : Type 1} → statement M
     close μ-put-action μ-put-list
     (λ t.
     put-action-lts.spec (action-calls t) (put-action-at t) put-action.Post
+    (put-action-mul-put-line t)
     (put-action-put-line-requires t)
     (put-action-add-next t)
     (put-action-same-length t)

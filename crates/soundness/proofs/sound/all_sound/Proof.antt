@@ -1,4 +1,4 @@
--- `all_sound` meets its contract: whether all started actions are sound is whether all from `n` on are, `n` the action at the
+-- `all_sound` meets its contract: whether all actions are sound is whether all from `n` on are, `n` the action at the
 -- loop's head, and the test decides `n` itself. Assumes nothing.
 use Prim.Native.Nat.{_≤_, _-_}
 use native.Mathlib.Nat.{add-sub-cancel}

@@ -20,8 +20,8 @@ unfolding sound
 returns-2 c =
     rw (eq-eqb _ _ (c .before .before .if1 .left), ← c .before .highest .ensures, lt-leb _ mostActions (c .if2 .taken))
 
-are-counted-requires : tie.Need-are-counted-requires
-are-counted-requires c κs = search needs
+are-bounded-requires : tie.Need-are-bounded-requires
+are-bounded-requires c κs = search needs
 
 returns-3 : tie.Need-returns-3
 unfolding sound
@@ -31,7 +31,7 @@ returns-3 c =
       eq-eqb _ _ (two .before .before .if1 .left),
       ← two .before .highest .ensures,
       le-leb _ mostActions (two .if2 .left),
-      failed (c .before .are-counted .ensures) (c .if3 .taken),
+      failed (c .before .are-bounded .ensures) (c .if3 .taken),
     )
 
 all-sound-requires : tie.Need-all-sound-requires
@@ -46,7 +46,7 @@ returns-4 c =
       eq-eqb _ _ (two .before .before .if1 .left),
       ← two .before .highest .ensures,
       le-leb _ mostActions (two .if2 .left),
-      held (three .before .are-counted .ensures) (three .if3 .left),
+      held (three .before .are-bounded .ensures) (three .if3 .left),
       failed (c .before .all-sound .ensures) (c .if4 .taken),
     )
 
@@ -63,7 +63,7 @@ returns-5 c =
       eq-eqb _ _ (two .before .before .if1 .left),
       ← two .before .highest .ensures,
       le-leb _ mostActions (two .if2 .left),
-      held (three .before .are-counted .ensures) (three .if3 .left),
+      held (three .before .are-bounded .ensures) (three .if3 .left),
       held (four .before .all-sound .ensures) (four .if4 .left),
       c .are-sound-queues .ensures,
     )
@@ -75,7 +75,7 @@ is-sound-spec =
     returns
     highest-requires
     returns-2
-    are-counted-requires
+    are-bounded-requires
     returns-3
     all-sound-requires
     returns-4

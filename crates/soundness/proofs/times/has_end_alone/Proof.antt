@@ -18,16 +18,16 @@ Inv-loop table n m₀ m = hasEndAlone table n ≡ all (λ m. not (sharesEndTime 
 abbrev μ-loop : tie.MeasureT-loop
 μ-loop table n m₀ m = n - m
 
-has-ended-requires : tie.Need-has-ended-requires Inv-loop μ-loop
-has-ended-requires c κs = search needs
+ends-under-another-requires : tie.Need-ends-under-another-requires Inv-loop μ-loop
+ends-under-another-requires c κs = search needs
 
 returns : tie.Need-returns Inv-loop μ-loop
 unfolding hasEndAlone
-returns c = rw (failed (c .before .has-ended .ensures) (c .if1 .taken))
+returns c = rw (failed (c .before .ends-under-another .ensures) (c .if1 .taken))
 
 loop-holds : tie.Need-loop-holds Inv-loop μ-loop
 unfolding hasEndAlone
-loop-holds c = rw (held (c .before .has-ended .ensures) (c .if1 .left))
+loop-holds c = rw (held (c .before .ends-under-another .ensures) (c .if1 .left))
 
 shares-end-time-requires : tie.Need-shares-end-time-requires Inv-loop μ-loop
 shares-end-time-requires c κs = search needs
@@ -57,7 +57,7 @@ has-end-alone-spec =
     (tie.spec
     Inv-loop
     μ-loop
-    has-ended-requires
+    ends-under-another-requires
     returns
     loop-holds
     shares-end-time-requires

@@ -1,11 +1,11 @@
 -- `shares_end_time` meets its contract: each exit is decided by the tests that led there; that the definition asks them in
 -- another order makes no difference. Children of one parent are of one kind. Assumes nothing.
-use mathlib.Core.Path.{sym, ap, _∙_}
+use mathlib.Core.Path.{sym, ap, ap₂, _∙_}
 use mathlib.Core.Bool.{true, _&&_}
 use borrow.Author.Needs.{needs}
 use borrow.Author.Tests.{eq-eqb, ne-eqb}
 use Rattle.rules.specs.Kind.{kindUnder}
-use Rattle.rules.specs.Table.{hasEnd}
+use Rattle.rules.specs.Sound.{endsUnderAnother}
 use Rattle.rules.proofs.Laws.Tests.{and-true, and-false}
 use Rattle.rules.proofs.Laws.Negated.{failed, held}
 use Rattle.soundness.proofs.times.shares_end_time.Statement.{statement}
@@ -28,22 +28,18 @@ end-together-requires c κs =
 returns-2 : tie.Need-returns-2
 returns-2 c = rw (failed (c .before .end-together .ensures) (c .if2 .taken), and-false)
 
-has-ended-requires : tie.Need-has-ended-requires
-has-ended-requires c κs = search needs
+ends-under-another-requires : tie.Need-ends-under-another-requires
+ends-under-another-requires c κs = search needs
 
 returns-3 : tie.Need-returns-3
 returns-3 c =
     let alike = c .before .before .before in
     let given = alike .before .before .before .before .args in
-    let ended = hasEnd (given .table .now) (given .m) in
-    rw (
-      c .has-ended .ensures,
-      ← alike .before .before .parent .ensures,
-      ← alike .before .parent2 .ensures,
-      eq-eqb _ _ (alike .if1 .left),
-      held (c .before .before .end-together .ensures) (c .before .if2 .left),
-    )
-    (sym (and-true (ended && true) ∙ and-true ended))
+    let ended = endsUnderAnother (given .table .now) (given .m) in
+    let parents = sym (alike .before .before .parent .ensures) ∙ alike .if1 .left ∙ alike .before .parent2 .ensures in
+    let together = held (c .before .before .end-together .ensures) (c .before .if2 .left) in
+    c .ends-under-another .ensures
+    ∙ sym (ap₂ (λ p e. ended && p && e) (eq-eqb _ _ parents) together ∙ and-true (ended && true) ∙ and-true ended)
 
 pub shares-end-time-spec : {M : Type 1} → statement M
 shares-end-time-spec =
@@ -54,5 +50,5 @@ shares-end-time-spec =
     returns
     end-together-requires
     returns-2
-    has-ended-requires
+    ends-under-another-requires
     returns-3)

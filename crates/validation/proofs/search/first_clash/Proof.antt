@@ -12,7 +12,7 @@ use Rattle.rules.specs.Clash.{firstClash}
 use Rattle.rules.specs.Sound.{IsGiven}
 use Rattle.rules.specs.Search.{nextAfter}
 use Rattle.rules.proofs.Clash.Records.{next-given}
-use Rattle.rules.proofs.Clash.Searching.{searchAfter, sound-searchable, search-none, search-next, search-after-finds}
+use Rattle.rules.proofs.Clash.Searching.{searchAfter, Searchable, sound-searchable, search-none, search-next, search-after-finds}
 use Rattle.rows.specs.Times.{kindIn, numberIn}
 use Rattle.validation.proofs.ClashSearch.{next-child, searchFrom, accounts-here, accounts-next, accounts-done, first-reads}
 use Rattle.validation.proofs.search.first_clash.Statement.{statement}
@@ -31,6 +31,11 @@ Inv-records table n p last₀ last = (kindIn last ≡ kindOf table n) × (firstC
 abbrev μ-records : tie.MeasureT-records
 μ-records table n p last₀ last = counter table (kindOf table n) - numberIn last
 
+-- the action is live, so the search finds its first clash
+searchable :
+    (c : tie.Start Inv-accounts μ-accounts Inv-records μ-records) → Searchable (c .args .table .now) (c .args .n)
+searchable c = sound-searchable (c .pre .0) (c .args .n) (c .pre .1 .0) (c .pre .1 .1)
+
 -- `m` is the next record after `last`
 is-next :
     (c : tie.After-next-record Inv-accounts μ-accounts Inv-records μ-records) →
@@ -40,7 +45,7 @@ is-next :
     ≡ nextAfter table (numberIn (c .before .records .last)) (records table (parentOf table (start .args .n)))
 is-next c = rw (c .before .before .before .parent .ensures) at (c .next-record .ensures)
 
--- where there is one it is a started action, and ends above `last` and within the counter
+-- where there is one it is an action of the table, and ends above `last` and within the counter
 next-found :
     (c : tie.Else1 Inv-accounts μ-accounts Inv-records μ-records) →
     let start = c .before .before .before .before .before .before in
@@ -70,7 +75,7 @@ records-holds : tie.Need-records-holds Inv-accounts μ-accounts Inv-records μ-r
 records-holds c = (
   c .first-read .ensures .kind,
   rw (c .first-read .ensures .number)
-      (sym (search-after-finds _ _ (sound-searchable (c .before .before .before .pre .0) _) _ (first-reads _ _ _))),
+      (sym (search-after-finds _ _ (searchable (c .before .before .before)) _ (first-reads _ _ _))),
 )
 
 next-record-requires : tie.Need-next-record-requires Inv-accounts μ-accounts Inv-records μ-records
@@ -86,7 +91,7 @@ accounts-holds c =
     rw (c .end-of .ensures .number) (
       omega arith,
       c .before .before .before .records .inv .1
-          ∙ search-next _ _ (sound-searchable (start .pre .0) _) _ _ (is-next (c .before .before)) (c .before .if1 .left),
+          ∙ search-next _ _ (searchable start) _ _ (is-next (c .before .before)) (c .before .if1 .left),
     )
 
 records-less : tie.Need-records-less Inv-accounts μ-accounts Inv-records μ-records
@@ -127,7 +132,7 @@ returns c =
     let start = c .before .before .before .before .before .before in
     sym
     (c .before .before .records .inv .1
-    ∙ search-none _ _ (sound-searchable (start .pre .0) _) _ _ (is-next (c .before)) (c .if1 .taken))
+    ∙ search-none _ _ (searchable start) _ _ (is-next (c .before)) (c .if1 .taken))
 
 returns-2 : tie.Need-returns-2 Inv-accounts μ-accounts Inv-records μ-records
 returns-2 c =

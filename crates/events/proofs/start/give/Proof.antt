@@ -1,0 +1,80 @@
+-- `give` puts the fields of the new action one by one, in the order of `giveTable`. Assumes nothing.
+use borrow.Author.Needs.{needs}
+use Rattle.rules.specs.Step.{giveTable}
+use Rattle.events.proofs.start.give.Statement.{statement}
+use Rattle.events.proofs.start.give.Tie as tie
+
+highest-requires : tie.Need-highest-requires
+highest-requires c κs = search needs
+
+larger-requires : tie.Need-larger-requires
+larger-requires c κs = search needs
+
+orphan-requires : tie.Need-orphan-requires
+orphan-requires c κs = search needs
+
+set-highest-requires : tie.Need-set-highest-requires
+set-highest-requires c κs = search needs
+
+set-parent-requires : tie.Need-set-parent-requires
+set-parent-requires c κs = search needs
+
+set-state-requires : tie.Need-set-state-requires
+set-state-requires c κs = search needs
+
+clear-end-requires : tie.Need-clear-end-requires
+clear-end-requires c κs = search needs
+
+clear-own-adds-requires : tie.Need-clear-own-adds-requires
+clear-own-adds-requires c κs = search needs
+
+clear-kept-requires : tie.Need-clear-kept-requires
+clear-kept-requires c κs = search needs
+
+clear-sets-requires : tie.Need-clear-sets-requires
+clear-sets-requires c κs = search needs
+
+same-length : tie.Need-same-length
+same-length c = search needs
+
+returns : tie.Need-returns
+unfolding giveTable
+returns c =
+    let emptied = c .before .before in
+    let unkept = emptied .before .before .before .before in
+    let unadded = unkept .before .before .before .before in
+    let ended = unadded .before .before .before .before in
+    let lives = ended .before .before .before .before in
+    let placed = lives .before .before .before .before in
+    let counted = placed .before .before .before .before in
+    let freed = counted .before .before .before .before in
+    let top = freed .before .before in
+    rw (
+      ← top .before .highest .ensures,
+      ← top .larger .ensures,
+      ← freed .orphan .ensures,
+      ← counted .set-highest .ensures,
+      ← placed .set-parent .ensures,
+      ← lives .set-state .ensures,
+      ← ended .clear-end .ensures,
+      ← unadded .clear-own-adds .ensures,
+      ← unkept .clear-kept .ensures,
+    )
+    (emptied .clear-sets .ensures)
+
+pub give-spec : {M : Type 1} → statement M
+give-spec =
+    tie.close
+    (tie.spec
+    highest-requires
+    larger-requires
+    orphan-requires
+    set-highest-requires
+    set-parent-requires
+    set-state-requires
+    clear-end-requires
+    clear-own-adds-requires
+    clear-kept-requires
+    clear-sets-requires
+    same-length
+    returns)

@@ -1,0 +1,2 @@
+-- The search for the lowest free number, step by step.
+pub mod Lowest
