@@ -4,7 +4,7 @@
 #include <stdio.h>
 #include <string.h>
 
-/* Actions get their numbers in the order of their starts; 0 is the store. */
+/* All three start before one of them ends, so they get their numbers in the order of their starts; 0 is the store. */
 enum { STORE, RUN, FIRST_BATCH, SECOND_BATCH };
 
 /* A charge account: its card begins with an amount in cents, low byte first. */

@@ -6,9 +6,9 @@
  * be any: a wrong one is refused, as is any content. A call that is refused leaves the table and both stores as they
  * were. No call fails in another way.
  *
- * Stack that a call takes: about 37 KB for a day; at most 3.6 KB for an event or a list and 3.2 KB for a look, where 64
- * actions lie one below the other, as the walk up the parents calls itself. There a tree takes about 510 KB and a day's
- * tree 550 KB: its walk calls itself for each level and, within a level, for each number up to the child's.
+ * Stack that a call takes: about 36 KB for a day; at most 3.6 KB for an event or a list and 3.2 KB for a look, where 64
+ * actions lie one below the other, as the walk up the parents calls itself. There a tree takes about 335 KB and a day's
+ * tree 377 KB: its walk calls itself for each level and, within a level, for each number up to the child's.
  *
  * Numbers of the refusals:
  *    1  the base store is not 1,024 bytes, or the shadow store not 65,536
@@ -16,7 +16,7 @@
  *    3  the event's code is not 1 to 8
  *    4  the number is above the highest number, or 0 where the event is no start
  *    5  the number names an action that is not live
- *    6  a start when 64 actions have started
+ *    6  a start when no number is free
  *    7  a read, a write or an add, and the account is above 31
  *    8  a write or an add, and the card is not 32 bytes
  *    9  a read, a write, a commit, an add or an enter while a child of the action is live
@@ -26,20 +26,30 @@
  *   13  an add to an account below 24, or a write to one from 24 on
  *   14  an add of an amount below -1,000,000 or above 1,000,000
  *   15  a sum that 64 signed bits do not hold: the pending sum or the own adds that an add would leave, the sum that a
- *       read would give, or one that a commit without a clash would leave at the parent, where the action stays live;
- *       or a total or a sum of a tree
+ *       read would give, or one that a commit without a clash would leave at the parent or in the store, pending or
+ *       kept, where the action stays live; or a total of a tree
  *   16  any event but a judge or an abort, and the number names an action in a queue
  *   17  a judge, and the action is not in its queue, or is ready already
  *   18  a commit while the queue for that kind of action is not empty
- * An event's refusals are asked in the order 1 to 8, 13, 14, 9, 16, 17, 18, 15, and the first that applies is given. A
+ *   19  a commit or an enter when the counter of that kind of action and the length of its queue come to 4,000,000,000
+ * An event's refusals are asked in the order 1 to 8, 13, 14, 9, 16 to 19, 15, and the first that applies is given. A
  * list asks 1, 2, then 10. A day asks 1, then 2 for the table's length alone, then its file, in an order of its own: 10
  * where it is empty, 11 for the count of cards, 10 where it ends before the count of events, 11 for that count, 10 for
  * its length, 12 for its accounts. So a file of the one byte 33 is cut, and is refused 11. A tree asks 1, also for the
  * opening store, then 2, then 15; a day's tree asks 1 likewise, and then what a day asks.
  *
+ * Numbers are given again, so a table may see any number of actions. A start gives the lowest number that is free, and
+ * a number means the action that got it last. It is free where it was never given, or where its action has finished and
+ * is not needed to judge others. Needed is an action that committed what it had written, while its parent is the store
+ * or live, and a live action below that parent (below the store: any) has read something, whatever it was, before it
+ * ended. So an action that has read and then does nothing may keep the numbers of all that commit after it, until it
+ * ends itself. No verdict comes out otherwise because a number was given again, and no card or sum is lost by it.
+ *
  * Accounts 24 to 31 are charge accounts. The first 8 bytes of such a card are an amount in cents, a signed 64-bit
  * number in two's complement, low byte first; the other 24 are the caller's own. An add joins the action's pending sum,
- * which a commit adds to the parent's, or to the amount in the base store.
+ * which a commit adds to the parent's, or to the amount in the base store. For the tree a commit also adds the action's
+ * total, which is its own adds and the totals of its committed children, to a sum that is kept for the parent, or for
+ * the store.
  *
  * There are two kinds of action: topactions, whose parent is the store, and subactions, which are all others. Each kind
  * has a counter and a queue of its own. A commit that has written raises the counter of its action's kind by 1, and
@@ -65,11 +75,11 @@ extern "C" {
 #endif
 
 /* Sizes. compare/build.rs reads these lines, and the values of the two enums below: plain numbers, one to a line. */
-#define MUNDZAVCH_ACTIONS 64          /* that a table sees in its life, numbered from 1 */
+#define MUNDZAVCH_ACTIONS 64          /* that have a number at a time: 1 to 64 */
 #define MUNDZAVCH_ACCOUNTS 32         /* numbered from 0 */
-#define MUNDZAVCH_ROW_WORDS 121       /* uint64_t words in a row of a table: a head, then a row for each action, with
+#define MUNDZAVCH_ROW_WORDS 129       /* uint64_t words in a row of a table: a head, then a row for each number, with
                                          as many places of each queue */
-#define MUNDZAVCH_TABLE_WORDS 7865    /* uint64_t words in a table */
+#define MUNDZAVCH_TABLE_WORDS 8385    /* uint64_t words in a table */
 #define MUNDZAVCH_CARD_BYTES 32
 #define MUNDZAVCH_BASE_BYTES 1024     /* byte 32 k is the first of account k's card */
 #define MUNDZAVCH_SHADOW_BYTES 65536  /* byte 1024 (n - 1) + 32 k is the first of action n's card for account k */
@@ -119,13 +129,14 @@ enum {
 /* Makes a new table of the words, whatever they held. Returns 0, or 2 where `words` is not MUNDZAVCH_TABLE_WORDS. */
 uint64_t mundzavch_open(uint64_t *table, size_t words);
 
-/* The actions started, the topactions' counter and the subactions': 0 where a table is too short to have them. */
+/* The highest number given so far, which never falls, the topactions' counter and the subactions': 0 where a table is
+ * too short to have them. */
 uint64_t mundzavch_highest(const uint64_t *table, size_t words);
 uint64_t mundzavch_top_counter(const uint64_t *table, size_t words);
 uint64_t mundzavch_sub_counter(const uint64_t *table, size_t words);
 
 /* One event. An event ignores the parts that it does not use. Returns the answer's kind; its numbers are in *first,
- * *second and *third. Refusals: 1 to 9 and 13 to 18. */
+ * *second and *third. Refusals: 1 to 9 and 13 to 19. */
 uint64_t mundzavch_event(uint64_t *table, size_t words, uint8_t *base, size_t base_bytes, uint8_t *shadow,
                          size_t shadow_bytes, uint64_t code, uint64_t number, uint64_t account, const uint8_t *card,
                          size_t card_bytes, uint64_t *first, uint64_t *second, uint64_t *third);
@@ -155,10 +166,12 @@ size_t mundzavch_day(const uint8_t *file, size_t file_bytes, uint64_t *table, si
 
 /* The tree of a table: what each action added to the charge accounts itself and with its committed children, and that
  * opening and sum make closing. Nothing is changed but the report. `opening` is the base store as it stood when the
- * table was new, MUNDZAVCH_BASE_BYTES of it. *lines is how many action lines stand at the front of the report, each
- * action's directly above those of its children, and children by rising number; a figure is an int64_t. Words between
- * the lines and the last block stay. Returns 0, or why there is no report (1, 2 or 15); then the report stays, and
- * *lines is 0. */
+ * table was new, MUNDZAVCH_BASE_BYTES of it. *lines is how many action lines stand at the front of the report: one for
+ * each action that has its number still, and whose parents, all the way up, have theirs. An action's line is directly
+ * above those of its children, and children come by rising number, which may be below their parent's; a figure is an
+ * int64_t. A committed child whose number was given again stays in its parent's total, and the sums of the last block
+ * are those of all topactions that committed since the table was new. Words between the lines and the last block stay.
+ * Returns 0, or why there is no report (1, 2 or 15); then the report stays, and *lines is 0. */
 uint64_t mundzavch_tree(const uint64_t *table, size_t words, const uint8_t *base, size_t base_bytes,
                         const uint8_t *shadow, size_t shadow_bytes, const uint8_t *opening, size_t opening_bytes,
                         uint64_t *report, uint64_t *lines);

@@ -1,8 +1,9 @@
 //! What stood before an event on a sound table, as far as coverage counts it.
 
-use crate::header::{ACCOUNTS, EVENT_COMMIT};
-use crate::model::{Event, Table, STORE};
+use crate::header::{ACCOUNTS, EVENT_COMMIT, EVENT_START};
+use crate::model::{Event, STORE};
 use crate::queue::Queue;
+use crate::table::Table;
 use crate::times::{Kind, KINDS};
 
 /// What a commit, if it passes, does with its action's reads.
@@ -20,10 +21,8 @@ impl Joins {
     /// Of an action's commit; a topaction's joins nothing.
     pub fn of(table: &Table, n: u64) -> Joins {
         let (child, mut joins) = (table.action(n), Joins::default());
-        if child.kind() == Kind::Top {
-            return joins;
-        }
-        let parent = table.action(child.parent);
+        let Some(place) = child.parent.place() else { return joins };
+        let parent = table.at(place);
         for k in 0..ACCOUNTS {
             let Some(read) = child.reads[k].times() else { continue };
             let has_card = parent.has_card(k);
@@ -42,20 +41,32 @@ impl Joins {
     }
 }
 
+fn of_start(table: &Table) -> (Vec<u64>, u64) {
+    let needed = table.held().filter(|a| table.is_needed(a)).map(|a| a.number).collect();
+    (needed, table.held().filter(|a| table.is_orphan(a)).count() as u64)
+}
+
 pub struct Before {
     queues: [Queue; KINDS.len()],
+    pub code: u64,
     /// Of the action that the event names, where it names one.
     pub kind: Option<Kind>,
     pub joins: Joins,
+    pub highest: u64,
+    /// At a start: the numbers whose records are needed, and how many actions are nobody's children.
+    pub needed: Vec<u64>,
+    pub orphans: u64,
 }
 
 impl Before {
     pub fn new(table: &Table, e: &Event) -> Before {
-        let names_action = e.number != STORE && e.number <= table.started;
+        let names_action = e.number != STORE && e.number <= table.highest;
         let kind = names_action.then(|| table.action(e.number).kind());
         let commits = names_action && e.code == EVENT_COMMIT;
         let joins = if commits { Joins::of(table, e.number) } else { Joins::default() };
-        Before { queues: table.queues.clone(), kind, joins }
+        let (queues, highest) = (table.queues.clone(), table.highest);
+        let (needed, orphans) = if e.code == EVENT_START { of_start(table) } else { (Vec::new(), 0) };
+        Before { queues, code: e.code, kind, joins, highest, needed, orphans }
     }
 
     pub fn queue(&self, kind: Kind) -> &Queue {

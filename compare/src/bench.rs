@@ -1,12 +1,16 @@
 //! The library over its C ABI beside the second engine, in one run: rounds interleaved, medians.
 
+use crate::action::State;
+use crate::cause;
 use crate::dayfile::{event_bytes, run_day, MOST_EVENTS};
-use crate::generate::{day_file, events, Ending, Shape, Style};
+use crate::generate::{day_file, events, Ending, Shape, Style, Turnover};
 use crate::header::*;
 use crate::library::{encode, Lent, COUNTERS, ENTRIES, LIVE, QUEUE_LENGTHS, READINESS, STATE};
-use crate::model::{put_amount, Answer, Event, Ledger, State, Table, FIRST_CHARGE, STORE};
+use crate::model::{put_amount, Answer, Event, Ledger, FIRST_CHARGE, STORE};
 use crate::random::Random;
+use crate::table::Table;
 use crate::times::{Kind, Times};
+use std::collections::VecDeque;
 use std::fmt::Write;
 use std::hint::black_box;
 use std::time::Instant;
@@ -34,6 +38,10 @@ const QUEUED: [u64; 2] = [1, ACTIONS as u64 - 1];
 const WAITING: Kind = Kind::Top;
 /// Where an event has no use for an account.
 const NO_ACCOUNT: u64 = 0;
+/// The busy day: how many actions are started, how many are live at a time, and each how many-th reads.
+const BUSY_STARTS: u64 = 300;
+const BUSY_LIVE: usize = 8;
+const BUSY_READ_EVERY: u64 = 3;
 
 struct Row {
     what: String,
@@ -95,18 +103,48 @@ fn done(w: &mut Ledger, e: &Event) {
     assert!(!matches!(answer, Answer::Refused(_)), "{e:?} is answered {answer:?}");
 }
 
-/// The days, by name: without queues as they lie, and one with them.
+/// Random days, by name: without queues as they lie, and one with them.
 const DAYS: [(&str, Style); 4] = [
-    ("deep", Style { shape: Shape::Deep, ending: Ending::Commits }),
-    ("wide", Style { shape: Shape::Wide, ending: Ending::Commits }),
-    ("mixed", Style { shape: Shape::Mixed, ending: Ending::Commits }),
-    ("wide, with the queues", Style { shape: Shape::Wide, ending: Ending::Queue }),
+    ("deep", Style { shape: Shape::Deep, ending: Ending::Commits, turnover: Turnover::Slow }),
+    ("wide", Style { shape: Shape::Wide, ending: Ending::Commits, turnover: Turnover::Slow }),
+    ("mixed", Style { shape: Shape::Mixed, ending: Ending::Commits, turnover: Turnover::Slow }),
+    ("wide, with the queues", Style { shape: Shape::Wide, ending: Ending::Queue, turnover: Turnover::Slow }),
 ];
+
+/// A day of as many events as a file may have, in which topactions follow each other, a few live at a time, each with a
+/// write and some with a read. Numbers are given again all day.
+fn busy_day() -> Vec<Event> {
+    let (mut w, mut list, mut live) =
+        (Ledger::new(vec![0; BASE_BYTES], vec![0; SHADOW_BYTES]), Vec::new(), VecDeque::new());
+    let mut event = |e: Event| {
+        let answer = w.event(&e);
+        list.push(e);
+        answer
+    };
+    for i in 0..BUSY_STARTS {
+        let Answer::Started(number) = event(of(EVENT_START, STORE, NO_ACCOUNT)) else { panic!("no number is free") };
+        if i % BUSY_READ_EVERY == 0 {
+            event(of(EVENT_READ, number, i % FREE_ACCOUNT));
+        }
+        event(of(EVENT_WRITE, number, i % FREE_ACCOUNT));
+        live.push_back(number);
+        if live.len() > BUSY_LIVE {
+            event(of(EVENT_COMMIT, live.pop_front().expect("some are live"), NO_ACCOUNT));
+        }
+    }
+    for number in live {
+        event(of(EVENT_COMMIT, number, NO_ACCOUNT));
+    }
+    assert_eq!(list.len(), MOST_EVENTS, "a busy day of another length");
+    list
+}
 
 /// A whole day: file to listing, and its events alone.
 fn days(rows: &mut Vec<Row>) {
-    for (name, style) in DAYS {
-        let list = events(&mut Random::new(SEED), &[0; BASE_BYTES], MOST_EVENTS, style, true);
+    let random = |style| events(&mut Random::new(SEED), &[0; BASE_BYTES], MOST_EVENTS, style, true);
+    let busy = (format!("with {BUSY_STARTS} starts"), busy_day());
+    let days = DAYS.into_iter().map(|(name, style)| (name.to_string(), random(style))).chain([busy]);
+    for (name, list) in days {
         let file = day_file(&[], &list);
         let (mut lent, mut buffer) = (lend(&new_world()), Box::new([0; LISTING_BYTES]));
         rows.push(measure(
@@ -225,7 +263,48 @@ fn searches(rows: &mut Vec<Row>) {
             },
             &mut || {
                 black_box(ledger.event(&commit));
-                ledger.table.actions[0].state = State::Live;
+                ledger.table.action_mut(1).state = State::Live;
+            },
+        ));
+    }
+}
+
+/// Numbers 2 and up with the records of topactions, and the first action live. They are needed where it has read first.
+fn records(needed: bool) -> Ledger {
+    let mut w = new_world();
+    for _ in 1..=ACTIONS {
+        done(&mut w, &of(EVENT_START, STORE, NO_ACCOUNT));
+    }
+    if needed {
+        done(&mut w, &of(EVENT_READ, 1, FREE_ACCOUNT));
+    }
+    for n in 2..=ACTIONS as u64 {
+        done(&mut w, &of(EVENT_WRITE, n, n % FREE_ACCOUNT));
+        done(&mut w, &of(EVENT_COMMIT, n, NO_ACCOUNT));
+    }
+    w
+}
+
+/// A start beside as many records as there can be. One that gives a number is taken back each time: the library by the
+/// words of one row, the second engine by one place of its list.
+fn starts(rows: &mut Vec<Row>) {
+    let start = of(EVENT_START, STORE, NO_ACCOUNT);
+    for (how, needed, answer) in
+        [("all free", false, Answer::Started(2)), ("all needed", true, Answer::Refused(cause::NO_NUMBER))]
+    {
+        let mut ledger = records(needed);
+        let (mut lent, record) = (lend(&ledger), ledger.table.holder(2));
+        let row = lent.table[2 * ROW_WORDS..3 * ROW_WORDS].to_vec();
+        assert_eq!(ledger.clone().event(&start), answer, "a start beside records that are {how}");
+        rows.push(measure(
+            &format!("a start, records held: {}, {how}", ACTIONS - 1),
+            &mut || {
+                black_box(lent.event(&start));
+                lent.table[2 * ROW_WORDS..3 * ROW_WORDS].copy_from_slice(&row);
+            },
+            &mut || {
+                black_box(ledger.event(&start));
+                ledger.table.take_back(record);
             },
         ));
     }
@@ -247,7 +326,7 @@ fn commits_again(rows: &mut Vec<Row>, what: &str, mut ledger: Ledger, n: u64) {
         },
         &mut || {
             black_box(ledger.event(&commit));
-            ledger.table.actions[n as usize - 1].state = State::Live;
+            ledger.table.action_mut(n).state = State::Live;
             ledger.table.counters = Times::ZERO;
         },
     ));
@@ -367,10 +446,8 @@ fn judges_of_all(rows: &mut Vec<Row>) {
     }
 }
 
-/// A start, and an add to every charge account by the new action.
-fn start_and_add(w: &mut Ledger, parent: u64) {
-    done(w, &of(EVENT_START, parent, NO_ACCOUNT));
-    let number = w.table.started;
+/// An add to every charge account by an action.
+fn add_to_all(w: &mut Ledger, number: u64) {
     for account in CHARGE_ACCOUNT..ACCOUNTS as u64 {
         done(w, &add(number, account));
     }
@@ -380,7 +457,8 @@ fn start_and_add(w: &mut Ledger, parent: u64) {
 fn deep_adders() -> Ledger {
     let mut w = new_world();
     for parent in STORE..ACTIONS as u64 {
-        start_and_add(&mut w, parent);
+        done(&mut w, &of(EVENT_START, parent, NO_ACCOUNT));
+        add_to_all(&mut w, parent + 1);
     }
     for n in (1..=ACTIONS as u64).rev() {
         done(&mut w, &of(EVENT_COMMIT, n, NO_ACCOUNT));
@@ -391,9 +469,13 @@ fn deep_adders() -> Ledger {
 /// A topaction and its children, each with adds and committed.
 fn wide_adders() -> Ledger {
     let mut w = new_world();
-    start_and_add(&mut w, STORE);
+    done(&mut w, &of(EVENT_START, STORE, NO_ACCOUNT));
+    add_to_all(&mut w, 1);
+    for _ in 2..=ACTIONS {
+        done(&mut w, &of(EVENT_START, 1, NO_ACCOUNT));
+    }
     for n in 2..=ACTIONS as u64 {
-        start_and_add(&mut w, 1);
+        add_to_all(&mut w, n);
         done(&mut w, &of(EVENT_COMMIT, n, NO_ACCOUNT));
     }
     done(&mut w, &of(EVENT_COMMIT, 1, NO_ACCOUNT));
@@ -422,7 +504,7 @@ fn growth(rows: &mut Vec<Row>) {
     for power in 0..=ACTIONS.ilog2() {
         let count = 1 << power;
         let read = of(EVENT_READ, 1, FREE_ACCOUNT);
-        rows.push(repeated(&format!("a read, actions started: {count}"), siblings(count), read));
+        rows.push(repeated(&format!("a read, actions held: {count}"), siblings(count), read));
     }
 }
 
@@ -450,6 +532,7 @@ pub fn bench(file: Option<&str>) -> Result<(), String> {
     charge_reads(&mut rows);
     looks(&mut rows);
     searches(&mut rows);
+    starts(&mut rows);
     commits(&mut rows);
     enters(&mut rows);
     judges_behind(&mut rows);

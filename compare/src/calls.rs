@@ -5,11 +5,12 @@ use crate::coverage::Coverage;
 use crate::dayfile::{event_bytes, event_of};
 use crate::generate::{event, style};
 use crate::header::{ANSWER_WORDS, BASE_BYTES, EVENT_BYTES, SHADOW_BYTES, TABLE_WORDS};
-use crate::library::{answer_words, decode, encode, Lent, COUNTERS, STARTED};
+use crate::library::{answer_words, decode, encode, Lent, COUNTERS, HIGHEST};
 use crate::lists::STALE;
-use crate::model::{Ledger, Table};
+use crate::model::Ledger;
 use crate::random::Random;
 use crate::same::{same, same_lent, same_words, Compared};
+use crate::table::Table;
 use crate::times::Times;
 
 /// A list has fewer events than this; a buffer that may be too small, fewer words.
@@ -62,7 +63,7 @@ fn expected_list(before: &Lent, bytes: &[u8], room: usize) -> (u64, Lent, Vec<u6
 pub fn open_and_three_numbers(before: &Lent) -> Compared {
     let word = |i: usize| before.table.get(i).copied().unwrap_or(0);
     let [top, sub] = COUNTERS.map(word);
-    same("the three numbers", before.three_numbers(), (word(STARTED), Times::new(top, sub)))?;
+    same("the three numbers", before.three_numbers(), (word(HIGHEST), Times::new(top, sub)))?;
     let fits = before.table.len() == TABLE_WORDS;
     let mut lent = before.clone();
     same("open", lent.open(), if fits { cause::NONE } else { cause::UNSOUND })?;

@@ -1,30 +1,35 @@
 //! Cases of own adds and trees at the ends of what an amount holds, and of the two queues and the two counters. Each
 //! has a name, and both engines are held to what the case says.
 
+use crate::action::State::{self, Aborted, Committed, Live};
+use crate::action::{Action, Parent};
 use crate::cause;
 use crate::coverage::Coverage;
 use crate::header::{BASE_BYTES, CARD_BYTES, EVENT_ADD, SHADOW_BYTES, TABLE_WORDS};
 use crate::kind_cases;
 use crate::library::{encode, Lent};
-use crate::model::State::{self, Aborted, Committed, Live};
-use crate::model::{put_amount, Action, Answer, Event, Ledger, Table, CHARGE_ACCOUNTS, FIRST_CHARGE, STORE};
+use crate::model::{put_amount, Answer, Event, Ledger, CHARGE_ACCOUNTS, FIRST_CHARGE, MOST_COUNTED, NO_FIGURES, STORE};
+use crate::number_cases;
+use crate::queue::Queue;
 use crate::queue_cases::{self, longest};
 use crate::same::{same_lent, Compared};
 use crate::scripts::check_script;
-use crate::times::Times;
+use crate::table::Table;
+use crate::times::{Times, KINDS};
 use crate::trees::tree;
 
 /// The ends of what an amount holds.
 const MOST: i64 = i64::MAX;
 const LEAST: i64 = i64::MIN;
-/// Counters of which no table of a case can have the one or the other, so that it is not sound.
-const TOP_TOO_HIGH: Times = Times::new(60, 0);
-const SUB_TOO_HIGH: Times = Times::new(0, 60);
+/// Counters of which the one or the other is too high, so that no table is sound with them.
+const TOP_TOO_HIGH: Times = Times::new(MOST_COUNTED + 1, 0);
+const SUB_TOO_HIGH: Times = Times::new(0, MOST_COUNTED + 1);
 /// What the stores hold. With this as an opening amount, opening and sum may lie outside; nothing asks for that.
 const FILL: u8 = 0x7f;
 
-/// An action made by hand: its parent, its state, its own adds to one account. It has written nothing.
-type Made = (u64, State, i64);
+/// An action made by hand: its parent, its state, and of one account its own adds and its kept sum. It has written
+/// nothing.
+type Made = (u64, State, i64, i64);
 
 struct TreeCase {
     name: &'static str,
@@ -43,40 +48,24 @@ const fn outside(name: &'static str, actions: &'static [Made]) -> TreeCase {
 }
 
 /// A total that is no amount.
-const OUTSIDE: &[Made] = &[(STORE, Live, MOST), (1, Committed, 1)];
+const OUTSIDE: &[Made] = &[(STORE, Live, MOST, 1)];
 
 const TREES: &[TreeCase] = &[
-    outside("a committed child's 1 above the most", OUTSIDE),
-    outside("a committed child's -1 below the least", &[(STORE, Live, LEAST), (1, Committed, -1)]),
-    passes("a second child's -1 beside the 1", &[(STORE, Live, MOST), (1, Committed, 1), (1, Committed, -1)]),
-    passes("exactly the most", &[(STORE, Committed, MOST - 1), (1, Committed, 1)]),
-    passes("exactly the least", &[(STORE, Committed, LEAST + 1), (1, Committed, -1)]),
-    passes(
-        "two children at each end, the upper ones first",
-        &[(STORE, Live, 0), (1, Committed, MOST), (1, Committed, MOST), (1, Committed, LEAST), (1, Committed, LEAST)],
-    ),
-    passes(
-        "two children at each end, the lower ones first",
-        &[(STORE, Live, 0), (1, Committed, LEAST), (1, Committed, LEAST), (1, Committed, MOST), (1, Committed, MOST)],
-    ),
-    passes("an aborted child's 1 does not come up", &[(STORE, Committed, MOST), (1, Aborted, 1)]),
-    passes("a live child's 1 does not come up", &[(STORE, Live, MOST), (1, Live, 1)]),
-    outside("an aborted action's own total", &[(STORE, Committed, 0), (1, Aborted, MOST), (2, Committed, 1)]),
-    outside("a total below an aborted action", &[(STORE, Aborted, 0), (1, Committed, MOST), (2, Committed, 1)]),
-    outside(
-        "a total that comes up, and would be brought back",
-        &[(STORE, Live, -1), (1, Committed, MOST), (2, Committed, 1)],
-    ),
-    outside("a sum of topactions, each total an amount", &[(STORE, Committed, MOST), (STORE, Committed, 1)]),
-    outside("such a sum below the least", &[(STORE, Committed, LEAST), (STORE, Committed, -1)]),
-    passes(
-        "a third topaction brings the sum back",
-        &[(STORE, Committed, MOST), (STORE, Committed, 1), (STORE, Committed, -1)],
-    ),
-    passes(
-        "topactions that have not committed",
-        &[(STORE, Committed, MOST), (STORE, Live, MOST), (STORE, Aborted, MOST)],
-    ),
+    outside("a total 1 above the most", OUTSIDE),
+    outside("a total 1 below the least", &[(STORE, Live, -1, LEAST)]),
+    passes("exactly the most", &[(STORE, Committed, MOST - 1, 1)]),
+    passes("exactly the least", &[(STORE, Committed, -1, LEAST + 1)]),
+    passes("opposite ends", &[(STORE, Live, MOST, LEAST), (1, Committed, LEAST, MOST)]),
+    outside("the same end twice", &[(STORE, Committed, LEAST, LEAST)]),
+    passes("a child's own adds are not asked for again", &[(STORE, Live, MOST, 0), (1, Committed, 1, 0)]),
+    passes("nor is its total", &[(STORE, Live, 0, MOST), (1, Committed, MOST, 0), (1, Committed, MOST, 0)]),
+    outside("an aborted action's total", &[(STORE, Committed, 0, 0), (1, Aborted, MOST, 1)]),
+    outside("a total below an aborted action", &[(STORE, Aborted, 0, 0), (1, Aborted, 0, 0), (2, Committed, MOST, 1)]),
+    outside("a total below a child whose number is higher", &[(2, Live, MOST, 1), (STORE, Live, 0, 0)]),
+    passes("one who is nobody's child is not asked", &[(STORE, Live, 0, 0), (2, Aborted, MOST, 1)]),
+    passes("nor are those below it", &[(STORE, Live, 0, 0), (2, Aborted, 0, 0), (2, Committed, MOST, 1)]),
+    passes("nor is a ring", &[(2, Committed, MOST, 1), (3, Aborted, LEAST, -1), (1, Committed, 1, MOST)]),
+    passes("topactions whose totals together are no amount", &[(STORE, Committed, MOST, 0), (STORE, Committed, 1, 0)]),
     TreeCase { counters: TOP_TOO_HIGH, cause: cause::UNSOUND, ..passes("an unsound table", OUTSIDE) },
     TreeCase { counters: SUB_TOO_HIGH, cause: cause::UNSOUND, ..passes("a table unsound in its subactions", OUTSIDE) },
     TreeCase {
@@ -126,17 +115,20 @@ fn lend(ledger: &Ledger) -> Lent {
 }
 
 fn made(actions: &[Made], charge: usize) -> Table {
-    let mut table = Table::new();
-    for (place, &(parent, state, own)) in table.actions.iter_mut().zip(actions) {
-        *place = Action { state, ..Action::new(parent) };
-        place.own_adds[charge] = own;
-    }
-    table.started = actions.len() as u64;
-    table
+    let highest = actions.len() as u64;
+    let action = |(number, &(parent, state, own, kept)): (u64, &Made)| {
+        let mut a = Action { state, ..Action::new(number, Parent::in_row(parent, number, highest)) };
+        a.own_adds[charge] = own;
+        a.kept[charge] = kept;
+        a
+    };
+    let rows = (1..=highest).zip(actions).map(action).collect();
+    Table::lent(highest, Times::ZERO, NO_FIGURES, KINDS.map(|_| Queue::new()), rows)
 }
 
 fn tree_case(case: &TreeCase, charge: usize) -> Compared {
-    let table = Table { counters: case.counters, ..made(case.actions, charge) };
+    let mut table = made(case.actions, charge);
+    table.counters = case.counters;
     let report = tree(&lend(&ledger(table)), &vec![FILL; case.opening_bytes], &mut Coverage::default())?;
     if report.cause == case.cause {
         return Ok(());
@@ -145,9 +137,9 @@ fn tree_case(case: &TreeCase, charge: usize) -> Compared {
 }
 
 fn add_case(case: &AddCase, charge: usize) -> Compared {
-    let mut table = made(&[(STORE, Live, case.own_adds)], charge);
-    table.actions[0].pending[charge] = case.pending;
-    table.actions[0].writes[FIRST_CHARGE + charge] = 1;
+    let mut table = made(&[(STORE, Live, case.own_adds, 0)], charge);
+    table.action_mut(1).pending[charge] = case.pending;
+    table.action_mut(1).writes[FIRST_CHARGE + charge] = 1;
     let mut ledger = ledger(table);
     let mut lent = lend(&ledger);
     let mut e =
@@ -161,19 +153,19 @@ fn add_case(case: &AddCase, charge: usize) -> Compared {
 }
 
 fn script_case(group: &str, name: &str, script: &str, seen: &mut Coverage) -> Compared {
-    check_script(script).map_err(|text| format!("{text}\nin the case of the queues and times, {group}: {name}"))?;
+    check_script(script).map_err(|text| format!("{text}\nin the case of {group}: {name}"))?;
     seen.cases += 1;
     Ok(())
 }
 
 fn check_scripts(seen: &mut Coverage) -> Compared {
-    for (group, cases) in queue_cases::GROUPS.iter().chain(kind_cases::GROUPS) {
+    for (group, cases) in queue_cases::GROUPS.iter().chain(kind_cases::GROUPS).chain(number_cases::GROUPS) {
         for (name, script) in *cases {
             script_case(group, name, script, seen)?;
         }
     }
-    for (name, script) in longest() {
-        script_case("longest", name, &script, seen)?;
+    for (name, script) in longest().into_iter().chain(number_cases::long()) {
+        script_case("long", name, &script, seen)?;
     }
     Ok(())
 }

@@ -6,7 +6,8 @@ pub const UNSOUND: u64 = 2;
 pub const CODE: u64 = 3;
 pub const NUMBER: u64 = 4;
 pub const NOT_LIVE: u64 = 5;
-pub const TABLE_FULL: u64 = 6;
+/// A start where no number is free.
+pub const NO_NUMBER: u64 = 6;
 pub const ACCOUNT: u64 = 7;
 pub const CARD_LENGTH: u64 = 8;
 pub const CHILD_LIVE: u64 = 9;
@@ -28,3 +29,5 @@ pub const QUEUED: u64 = 16;
 pub const NOTHING_TO_JUDGE: u64 = 17;
 /// A commit while the queue of the action's kind is not empty.
 pub const QUEUE_FIRST: u64 = 18;
+/// A commit or an enter where the counter and the queue of the action's kind have come to the most.
+pub const COUNTED_OUT: u64 = 19;

@@ -3,9 +3,11 @@
 use crate::before::{Before, Joins};
 use crate::cause;
 use crate::header::{EVENT_ADD, EVENT_COMMIT, EVENT_READ};
-use crate::model::{amount_in, Answer, Event, Outcome, Shown, Table, FIRST_CHARGE};
+use crate::model::{amount_in, Answer, Event, Outcome, Shown, FIRST_CHARGE};
+use crate::number_coverage::NumberCoverage;
 use crate::queue_coverage::QueueCoverage;
 use crate::sound::Unsound;
+use crate::table::Table;
 use crate::times::{Kind, KINDS};
 use crate::trees::Report;
 use std::collections::BTreeMap;
@@ -36,6 +38,7 @@ pub struct Coverage {
     pub own_adds_refused: u64,
     looks_refused: BTreeMap<u64, u64>,
     queues: QueueCoverage,
+    pub numbers: NumberCoverage,
     pub cases: u64,
     trees: u64,
     tree_refusals: BTreeMap<u64, u64>,
@@ -53,7 +56,17 @@ pub struct Coverage {
 /// Something that a comparison has to meet, and how often it has.
 pub type Point = (String, u64);
 
-/// The clauses of docs/RULES.md, 7, that there are two of, one for each kind.
+/// The clauses of docs/RULES.md, 7, that have to do with no kind.
+const OF_NO_KIND: [Unsound; 7] = [
+    Unsound::Highest,
+    Unsound::State,
+    Unsound::ParentUnknown,
+    Unsound::ParentNotLive,
+    Unsound::EndTimeTwice,
+    Unsound::Pending,
+    Unsound::Ring,
+];
+/// Those that there are two of, one for each kind.
 const PER_KIND: [fn(Kind) -> Unsound; 11] = [
     Unsound::Counter,
     Unsound::ReadTime,
@@ -122,6 +135,7 @@ impl Coverage {
     /// An event on a sound table, and what came of it.
     pub fn outcome(&mut self, before: &Before, after: &Table, done: &Outcome) {
         self.queues.event(before, after, done);
+        self.numbers.event(before, after, done);
         if let Answer::Committed(_) = done.answer {
             self.joins.behind += before.joins.behind;
             self.joins.behind_later += before.joins.behind_later;
@@ -135,7 +149,10 @@ impl Coverage {
             *self.unsound.entry(clause).or_default() += 1;
         }
         match faults[..] {
-            [] => self.sound += 1,
+            [] => {
+                self.sound += 1;
+                self.numbers.sound(table);
+            }
             [alone] => {
                 *self.unsound_alone.entry(alone).or_default() += 1;
                 if table.is_sound_in_mixed_times() {
@@ -150,7 +167,11 @@ impl Coverage {
     fn points(&self) -> Vec<Point> {
         let of = |counts: &BTreeMap<Unsound, u64>, clause| counts.get(&clause).copied().unwrap_or(0);
         let mut points = self.queues.points();
+        points.extend(self.numbers.points());
         points.push(("a read joined that takes its times from two".to_string(), self.joins.crossed));
+        for clause in OF_NO_KIND {
+            points.push((format!("{clause:?} broken alone"), of(&self.unsound_alone, clause)));
+        }
         for kind in KINDS {
             for clause in PER_KIND.map(|clause| clause(kind)) {
                 points.push((format!("{clause:?} broken alone"), of(&self.unsound_alone, clause)));
@@ -260,6 +281,7 @@ impl fmt::Display for Coverage {
         row(f, "refusals by number", &self.refusals)?;
         row(f, "looks refused by number", &self.looks_refused)?;
         write!(f, "{}", self.queues)?;
+        write!(f, "{}", self.numbers)?;
         row(f, "reads by moves up", &self.moves)?;
         row(f, "adds", &self.adds)?;
         row(f, "sums read", &self.sums)?;

@@ -1,11 +1,13 @@
 //! Damage to tables and stores.
 
-use crate::damage_queues::damage_queues;
+use crate::damage_parents::damage_parent;
+use crate::damage_queues::{damage_queues, length, make_queue};
 use crate::generate::{any_base, busy_charge, extreme};
 use crate::header::*;
 use crate::library::{Lent, ABORTED, COMMITTED, LIVE};
-use crate::library::{COUNTERS, END, HEAD_WORDS, OWN_ADDS, PARENT, PENDING, READS, STARTED, STATE, SUB_TIMES, WRITES};
-use crate::model::{base_card, put_amount, CHARGE_ACCOUNTS, FIRST_CHARGE};
+use crate::library::{COUNTERS, END, HEAD_WORDS, HIGHEST, KEPT, OWN_ADDS, PARENT};
+use crate::library::{PENDING, READS, STATE, SUB_TIMES, WRITES};
+use crate::model::{base_card, put_amount, CHARGE_ACCOUNTS, FIRST_CHARGE, MOST_COUNTED, STORE};
 use crate::random::Random;
 use crate::times::{Kind, KINDS};
 
@@ -26,14 +28,19 @@ damages! {
     BaseLength,
     ShadowLength,
     TableLength,
-    Started,
+    Highest,
+    HighestLower,
     Counter,
-    CounterOfAll,
+    CounterAtMost,
     UnusedHead,
     UnusedRow,
     NoState,
-    ParentNotBelow,
+    ParentUnknown,
+    ParentAbove,
+    OwnParent,
     OtherParent,
+    RingOfLive,
+    RingOfFinished,
     OtherState,
     LateRead,
     LateReadWithinOther,
@@ -47,6 +54,7 @@ damages! {
     PendingAstray,
     PendingAtEnds,
     OwnAddsAtEnds,
+    KeptAtEnds,
     BaseAtEnds,
     QueueMade,
     QueueMadeReady,
@@ -71,7 +79,7 @@ pub const LENGTHS: &[Damage] = &[BaseLength, ShadowLength, TableLength];
 const BASE_LENGTHS: [usize; 6] = [0, 1, BASE_BYTES - CARD_BYTES, BASE_BYTES - 1, BASE_BYTES + 1, 2 * BASE_BYTES];
 const SHADOW_LENGTHS: [usize; 6] = [0, 1, BASE_BYTES, SHADOW_BYTES - 1, SHADOW_BYTES + 1, SHADOW_BYTES + BASE_BYTES];
 const TABLE_LENGTHS: [usize; 9] = [
-    STARTED,
+    HIGHEST,
     COUNTERS[0],
     COUNTERS[1],
     COUNTERS[1] + 1,
@@ -82,11 +90,11 @@ const TABLE_LENGTHS: [usize; 9] = [
     TABLE_WORDS + ROW_WORDS,
 ];
 /// Words of the head that nothing is kept in.
-const UNUSED_HEAD: std::ops::Range<usize> = HEAD_WORDS..ROW_WORDS;
+const UNUSED_HEAD: std::ops::Range<usize> = HEAD_WORDS..KEPT;
 /// One opening store in so many has another length.
 const OTHER_OPENING: u64 = 8;
-/// One action in so many gets other own adds: all, some or few of them.
-const OWN_ADDS_RARE: [u64; 3] = [1, 2, 8];
+/// One action in so many gets other own adds or kept sums: all, some or few of them.
+const FIGURES_RARE: [u64; 3] = [1, 2, 8];
 /// What a store is filled up with where it grows.
 const FILL: u8 = 7;
 
@@ -117,8 +125,9 @@ pub fn damage(r: &mut Random, damage: Damage, lent: &mut Lent) {
         TableLength => words.resize(*r.pick(&TABLE_LENGTHS), 0),
         BaseAtEnds => damage_amounts(r, &mut lent.base),
         _ if words.len() != TABLE_WORDS => {}
-        Started => words[STARTED] = beyond(r, ACTIONS as u64 + 1),
-        Counter | CounterOfAll => damage_counter(r, damage, words),
+        Highest => words[HIGHEST] = beyond(r, ACTIONS as u64 + 1),
+        HighestLower => words[HIGHEST] = r.below(highest(words) + 1),
+        Counter | CounterAtMost => damage_counter(r, damage, words),
         UnusedHead => words[UNUSED_HEAD.start + r.below(UNUSED_HEAD.len() as u64) as usize] = r.next(),
         UnusedRow => damage_unused_row(r, words),
         QueueMade | QueueMadeReady | QueuesMadeReady | QueueLength | QueueLonger | QueueShorter | EntriesAbove
@@ -129,7 +138,11 @@ pub fn damage(r: &mut Random, damage: Damage, lent: &mut Lent) {
         UnreadTimes => damage_unread_times(r, words),
         EndTime | EndTimeWithinOther => damage_end_time(r, damage, words),
         PendingAtEnds => damage_sums(r, words),
-        OwnAddsAtEnds => damage_own_adds(r, words),
+        OwnAddsAtEnds => damage_figures(r, words, OWN_ADDS),
+        KeptAtEnds => damage_kept_sums(r, words),
+        ParentUnknown | ParentAbove | OwnParent | OtherParent | RingOfLive | RingOfFinished => {
+            damage_parent(r, damage, words)
+        }
         _ => damage_action(r, damage, words),
     }
 }
@@ -146,9 +159,9 @@ fn damage_amounts(r: &mut Random, base: &mut [u8]) {
     }
 }
 
-/// How many rows are actions, whatever the head says.
-pub fn started(words: &[u64]) -> u64 {
-    words[STARTED].min(ACTIONS as u64)
+/// The highest number, which says how many rows are actions; no more than there are, whatever the head says.
+pub fn highest(words: &[u64]) -> u64 {
+    words[HIGHEST].min(ACTIONS as u64)
 }
 
 pub fn field(words: &[u64], n: u64, at: usize) -> u64 {
@@ -163,33 +176,37 @@ fn counter(words: &[u64], kind: Kind) -> u64 {
     words[COUNTERS[kind as usize]]
 }
 
-/// A started action that fits, if there is one.
+/// An action that fits, if there is one.
 pub fn any_action(r: &mut Random, words: &[u64], fits: impl Fn(u64) -> bool) -> Option<u64> {
-    let fitting: Vec<u64> = (1..=started(words)).filter(|&n| fits(n)).collect();
+    let fitting: Vec<u64> = (1..=highest(words)).filter(|&n| fits(n)).collect();
     (!fitting.is_empty()).then(|| *r.pick(&fitting))
 }
 
 /// Whether an action may wait in its queue: it is live, and has no live child.
 pub fn may_wait(words: &[u64], n: u64) -> bool {
     let is_live = |n: u64| field(words, n, STATE) == LIVE;
-    is_live(n) && !(1..=started(words)).any(|m| is_live(m) && field(words, m, PARENT) == n)
+    is_live(n) && !(1..=highest(words)).any(|m| is_live(m) && field(words, m, PARENT) == n)
 }
 
-/// Either counter raised: by any number, or to what all actions together would allow.
+/// A counter raised, mostly of a kind of which somebody could end: by any number, or to about its most, where the
+/// queue of its kind is often made or emptied first.
 fn damage_counter(r: &mut Random, damage: Damage, words: &mut [u64]) {
-    let kind = *r.pick(&KINDS);
-    let raised = match damage {
-        CounterOfAll => {
-            let committed = |n: &u64| field(words, *n, STATE) == COMMITTED;
-            let all: Vec<u64> = (1..=started(words)).filter(committed).collect();
-            let own = all.iter().filter(|&&n| kind_of(words, n) == kind).count();
-            between(r, own as u64, all.len() as u64)
-        }
-        _ => Some(beyond(r, counter(words, kind).saturating_add(1))),
-    };
-    if let Some(raised) = raised {
-        words[COUNTERS[kind as usize]] = raised;
+    let any = *r.pick(&KINDS);
+    let kind = any_action(r, words, |n| may_wait(words, n)).map_or(any, |n| kind_of(words, n));
+    if matches!(damage, Counter) {
+        let least = if r.one_in(2) { MOST_COUNTED } else { counter(words, kind) };
+        words[COUNTERS[kind as usize]] = beyond(r, least.saturating_add(1));
+        return;
     }
+    match r.below(3) {
+        0 => make_queue(r, words, kind),
+        1 => *length(words, kind) = 0,
+        _ => {}
+    }
+    let waiting = (*length(words, kind)).min(ACTIONS as u64);
+    let too_many = MOST_COUNTED + 1 + r.below(waiting.max(1));
+    let counted = *r.pick(&[MOST_COUNTED - 1, MOST_COUNTED, MOST_COUNTED, too_many]);
+    words[COUNTERS[kind as usize]] = counted - waiting;
 }
 
 /// A time above the counter of its kind, or at it; where that is asked, one that is not above the other counter.
@@ -233,7 +250,7 @@ fn damage_end_time(r: &mut Random, damage: Damage, words: &mut [u64]) {
 /// Reads of live actions at any times that the counters allow.
 fn damage_read_times(r: &mut Random, words: &mut [u64]) {
     let [top, sub] = KINDS.map(|kind| counter(words, kind).saturating_add(1));
-    for n in 1..=started(words) {
+    for n in 1..=highest(words) {
         let row = row(words, n);
         for k in 0..ACCOUNTS {
             if row[STATE] == LIVE && r.one_in(4) {
@@ -247,8 +264,8 @@ fn damage_read_times(r: &mut Random, words: &mut [u64]) {
 /// smaller subaction time. Events do not lead there, as both counters rise. The parent may have a card.
 fn cross_reads(r: &mut Random, words: &mut [u64]) {
     let [top, sub] = KINDS.map(|kind| counter(words, kind));
-    let fits = |n: u64| kind_of(words, n) == Kind::Sub && field(words, n, PARENT) < n && may_wait(words, n);
-    let Some(n) = any_action(r, words, fits) else { return };
+    let has_parent = |n: u64| (STORE + 1..=highest(words)).contains(&field(words, n, PARENT));
+    let Some(n) = any_action(r, words, |n| has_parent(n) && may_wait(words, n)) else { return };
     let parent = field(words, n, PARENT);
     let written: Vec<usize> = (0..ACCOUNTS).filter(|&k| field(words, parent, WRITES + k) != 0).collect();
     let any = r.below(ACCOUNTS as u64) as usize;
@@ -265,7 +282,7 @@ fn cross_reads(r: &mut Random, words: &mut [u64]) {
 
 /// Anything where the subaction times of accounts that are not in the read set would stand.
 fn damage_unread_times(r: &mut Random, words: &mut [u64]) {
-    for n in 1..=started(words) {
+    for n in 1..=highest(words) {
         let row = row(words, n);
         for k in 0..ACCOUNTS {
             if row[READS + k] == 0 && r.one_in(2) {
@@ -277,7 +294,7 @@ fn damage_unread_times(r: &mut Random, words: &mut [u64]) {
 
 /// Most pending sums put at an end of 64 bits, or near it: of live actions, and of others where they have added.
 fn damage_sums(r: &mut Random, words: &mut [u64]) {
-    for n in 1..=started(words) {
+    for n in 1..=highest(words) {
         let row = row(words, n);
         for c in 0..CHARGE_ACCOUNTS {
             let entry = WRITES + FIRST_CHARGE + c;
@@ -289,22 +306,35 @@ fn damage_sums(r: &mut Random, words: &mut [u64]) {
     }
 }
 
-/// Own adds of actions in any state put at an end of 64 bits, near it, or near 0. One account alone or all of them:
-/// with all, hardly a table is left in which every total is an amount.
-fn damage_own_adds(r: &mut Random, words: &mut [u64]) {
+/// Own adds or kept sums of actions in any state put at an end of 64 bits, near it, or near 0. One account alone or all
+/// of them: with all, hardly a table is left in which every total is an amount.
+fn damage_figures(r: &mut Random, words: &mut [u64], first: usize) {
     let one = busy_charge(r);
     let charges = if r.one_in(2) { 0..CHARGE_ACCOUNTS } else { one..one + 1 };
-    let rare = *r.pick(&OWN_ADDS_RARE);
-    for n in 1..=started(words) {
+    let rare = *r.pick(&FIGURES_RARE);
+    for n in 1..=highest(words) {
         for c in charges.clone() {
             if r.one_in(rare) {
-                row(words, n)[OWN_ADDS + c] = any_own_adds(r) as u64;
+                row(words, n)[first + c] = any_figure(r) as u64;
             }
         }
     }
 }
 
-fn any_own_adds(r: &mut Random) -> i64 {
+/// Kept sums of the store and of actions, sometimes with heads of queues that are ready to leave.
+fn damage_kept_sums(r: &mut Random, words: &mut [u64]) {
+    if !r.one_in(3) {
+        damage_figures(r, words, KEPT);
+    }
+    if !r.one_in(3) {
+        words[KEPT..KEPT + CHARGE_ACCOUNTS].fill_with(|| any_figure(r) as u64);
+    }
+    if r.one_in(2) {
+        damage_queues(r, QueuesMadeReady, words);
+    }
+}
+
+fn any_figure(r: &mut Random) -> i64 {
     match r.below(4) {
         0 => *r.pick(&[-1, 0, 1]),
         1 => extreme(r),
@@ -322,23 +352,22 @@ pub fn any_opening(r: &mut Random) -> Vec<u8> {
 }
 
 fn damage_unused_row(r: &mut Random, words: &mut [u64]) {
-    let above = started(words) + 1 + r.below(3);
+    let above = highest(words) + 1 + r.below(3);
     if above <= ACTIONS as u64 {
         row(words, above).fill_with(|| r.next());
     }
 }
 
+/// Any action: its state, an entry of its write set, a pending sum, or another's end time.
 fn damage_action(r: &mut Random, damage: Damage, words: &mut [u64]) {
-    let started = started(words);
-    if started == 0 {
+    let highest = highest(words);
+    if highest == 0 {
         return;
     }
-    let n = 1 + r.below(started);
+    let n = 1 + r.below(highest);
     let k = r.below(ACCOUNTS as u64) as usize;
     match damage {
         NoState => row(words, n)[STATE] = *r.pick(&[0, ABORTED + 1, ABORTED + 2, u64::MAX]),
-        ParentNotBelow => row(words, n)[PARENT] = beyond(r, n),
-        OtherParent => row(words, n)[PARENT] = r.below(n),
         OtherState => row(words, n)[STATE] = *r.pick(&[LIVE, COMMITTED, ABORTED]),
         WriteEntry => row(words, n)[WRITES + k] = 2 + r.below(9),
         PendingAstray => {
@@ -347,7 +376,7 @@ fn damage_action(r: &mut Random, damage: Damage, words: &mut [u64]) {
             row(words, n)[PENDING + c] = *r.pick(&[1, i64::MAX, i64::MIN, -1]) as u64;
         }
         _ => {
-            let other = 1 + r.below(started);
+            let other = 1 + r.below(highest);
             let end = row(words, other)[END];
             row(words, n)[END] = end;
         }

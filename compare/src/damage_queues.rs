@@ -1,6 +1,6 @@
 //! Damage to the two queues of a table, to one of them or to both.
 
-use crate::damage::{any_action, beyond, field, kind_of, may_wait, row, started, Damage};
+use crate::damage::{any_action, beyond, field, highest, kind_of, may_wait, row, Damage};
 use crate::header::ACTIONS;
 use crate::library::{entry_words, ENTRIES, LIVE, NUMBER, QUEUE_LENGTHS, READINESS, STATE, VERDICT};
 use crate::random::Random;
@@ -29,7 +29,7 @@ pub fn damage_queues(r: &mut Random, damage: Damage, words: &mut [u64]) {
     }
 }
 
-fn length(words: &mut [u64], kind: Kind) -> &mut u64 {
+pub fn length(words: &mut [u64], kind: Kind) -> &mut u64 {
     &mut words[QUEUE_LENGTHS[kind as usize]]
 }
 
@@ -44,9 +44,9 @@ fn put_entry(r: &mut Random, words: &mut [u64], kind: Kind, position: u64, numbe
 
 /// A queue of some of those that may wait in it, in any order, with odd words: what a caller may lend though no events
 /// lead there.
-fn make_queue(r: &mut Random, words: &mut [u64], kind: Kind) {
+pub fn make_queue(r: &mut Random, words: &mut [u64], kind: Kind) {
     let fits = |n: &u64| kind_of(words, *n) == kind && may_wait(words, *n);
-    let mut numbers: Vec<u64> = (1..=started(words)).filter(fits).collect();
+    let mut numbers: Vec<u64> = (1..=highest(words)).filter(fits).collect();
     let mut put = 0;
     while !numbers.is_empty() && !r.one_in(8) {
         let number = numbers.swap_remove(r.below(numbers.len() as u64) as usize);
@@ -65,9 +65,9 @@ fn make_ready_queue(r: &mut Random, words: &mut [u64], kind: Kind) {
 
 /// Positions behind the tail, filled with anything, or with what an engine that reads on would take for entries.
 fn damage_entries_above(r: &mut Random, words: &mut [u64], kind: Kind) {
-    let (started, length) = (started(words), (*length(words, kind)).min(ACTIONS as u64));
+    let (highest, length) = (highest(words), (*length(words, kind)).min(ACTIONS as u64));
     for position in length + 1..=ACTIONS as u64 {
-        let number = if r.one_in(2) { r.next() } else { r.below(started + 1) };
+        let number = if r.one_in(2) { r.next() } else { r.below(highest + 1) };
         put_entry(r, words, kind, position, number);
     }
 }
@@ -93,7 +93,7 @@ fn damage_queue(r: &mut Random, damage: Damage, words: &mut [u64], kind: Kind) {
     if *length(words, kind) == 0 {
         make_queue(r, words, kind);
     }
-    let (started, tail) = (started(words), *length(words, kind));
+    let (highest, tail) = (highest(words), *length(words, kind));
     if tail == 0 || tail >= ACTIONS as u64 {
         return;
     }
@@ -102,7 +102,7 @@ fn damage_queue(r: &mut Random, damage: Damage, words: &mut [u64], kind: Kind) {
         Damage::QueueLonger => *length(words, kind) = (tail + 1 + r.below(2)).min(ACTIONS as u64),
         Damage::QueueShorter => *length(words, kind) = r.below(tail),
         Damage::EntryNobody => {
-            *word(words, kind, position, NUMBER) = if r.one_in(2) { 0 } else { beyond(r, started + 1) }
+            *word(words, kind, position, NUMBER) = if r.one_in(2) { 0 } else { beyond(r, highest + 1) }
         }
         Damage::EntryOther => *word(words, kind, position, NUMBER) = other_of_kind(r, words, kind),
         Damage::EntryTwice => {
@@ -119,7 +119,7 @@ fn damage_queue(r: &mut Random, damage: Damage, words: &mut [u64], kind: Kind) {
 
 /// Any action, mostly of the queue's kind and often live.
 fn other_of_kind(r: &mut Random, words: &[u64], kind: Kind) -> u64 {
-    let any = 1 + r.below(started(words));
+    let any = 1 + r.below(highest(words).max(1));
     if r.one_in(4) {
         return any;
     }

@@ -6,20 +6,21 @@ use crate::cause;
 use crate::coverage::Coverage;
 use crate::damage::{any_opening, damage, DAMAGES};
 use crate::generate::{event, events, style};
-use crate::header::{BASE_BYTES, EVENT_ADD, SHADOW_BYTES};
+use crate::header::{BASE_BYTES, EVENT_ADD, EVENT_COMMIT, SHADOW_BYTES};
 use crate::library::{decode, encode, Lent};
 use crate::lists::Opening;
-use crate::model::{amount_in, Answer, Event, Ledger, Shown, Table, FIRST_CHARGE};
+use crate::model::{amount_in, Answer, Event, Ledger, Shown, FIRST_CHARGE};
 use crate::random::Random;
 use crate::same::{same, same_lent, Compared};
 use crate::shrink::{described, smallest_list};
+use crate::table::Table;
 use crate::trees::tree;
 
 /// What the stores hold before the list.
 const BASE: [u8; BASE_BYTES] = [3; BASE_BYTES];
 const SHADOW_FILL: u8 = 5;
-/// A list is shorter than this, and as many tables as this are damaged after it.
-const LONGEST_HISTORY: u64 = 150;
+/// A list is shorter than one of these, and as many tables as this are damaged after it.
+const LONGEST_HISTORIES: [u64; 3] = [150, 150, 600];
 const TABLES_TO_A_HISTORY: u64 = 50;
 /// Makes these random numbers others than the lists'.
 const SALT: u64 = 0xda3a_6ed0;
@@ -38,6 +39,7 @@ fn expected(lent: &Lent, e: &Event, seen: &mut Coverage) -> (Answer, Lent, Resul
     }
     let a = seen_event(&mut ledger, e, seen);
     seen.own_adds_refused += u64::from(refused_for_own_adds(&ledger, e, a));
+    seen.numbers.kept_refused += u64::from(refused_for_kept_sum(&ledger, e, a));
     let mut words = lent.table.clone();
     encode(&ledger.table, &mut words);
     let look = ledger.look(e.number, e.account);
@@ -70,9 +72,14 @@ fn refused_for_own_adds(ledger: &Ledger, e: &Event, a: Answer) -> bool {
     pending.checked_add(amount_in(&e.card)).is_some()
 }
 
-/// Every call on a table that a list left, after one damage or two.
-fn damaged(seed: u64, history: &[Event], seen: &mut Coverage) -> Compared {
-    let mut r = Random::new(seed);
+/// Whether a commit was refused for a kept sum alone: what it would leave pending, or in the base store, are amounts.
+fn refused_for_kept_sum(ledger: &Ledger, e: &Event, a: Answer) -> bool {
+    let is_refused = e.code == EVENT_COMMIT && a == Answer::Refused(cause::SUM);
+    is_refused && ledger.only_kept_sum_fails(ledger.table.action(e.number))
+}
+
+/// What a list leaves, in both engines.
+fn played(history: &[Event]) -> (Lent, Ledger) {
     let opening = Opening { base: BASE.to_vec(), shadow: vec![SHADOW_FILL; SHADOW_BYTES] };
     let mut lent = opening.lend();
     let mut ledger = Ledger::new(opening.base, opening.shadow);
@@ -80,11 +87,17 @@ fn damaged(seed: u64, history: &[Event], seen: &mut Coverage) -> Compared {
         lent.event(e);
         ledger.event(e);
     }
+    (lent, ledger)
+}
+
+/// Every call on a table that a list left, after one damage or two.
+fn damaged(seed: u64, (lent, ledger): &(Lent, Ledger), seen: &mut Coverage) -> Compared {
+    let (mut r, mut lent) = (Random::new(seed), lent.clone());
     for _ in 0..1 + r.below(3) / 2 {
         let which = *r.pick(DAMAGES);
         damage(&mut r, which, &mut lent);
     }
-    let guide = guide(&lent, &ledger);
+    let guide = guide(&lent, ledger);
     list_call(&mut r, &lent, &guide, seen)?;
     open_and_three_numbers(&lent)?;
     let report = tree(&lent, &any_opening(&mut r), seen)?;
@@ -103,18 +116,20 @@ fn damaged(seed: u64, history: &[Event], seen: &mut Coverage) -> Compared {
 
 pub fn check_damaged(count: u64, seed: u64, seen: &mut Coverage) -> Compared {
     let mut r = Random::new(seed ^ SALT);
-    let mut history = Vec::new();
+    let (mut history, mut left) = (Vec::new(), played(&[]));
     for i in 0..count {
         if i % TABLES_TO_A_HISTORY == 0 {
-            let (length, style) = (r.below(LONGEST_HISTORY) as usize, style(&mut r));
+            let longest = *r.pick(&LONGEST_HISTORIES);
+            let (length, style) = (r.below(longest) as usize, style(&mut r));
             history = events(&mut r, &BASE, length, style, false);
+            left = played(&history);
             crate::check::progress(&format!("{i} damaged tables of {count}"));
         }
         let once = r.next();
-        if let Err(text) = damaged(once, &history, seen) {
-            let differs = |part: &[Event]| damaged(once, part, &mut Coverage::default()).is_err();
-            let small = smallest_list(&history, &BASE, differs);
-            let why = damaged(once, &small, &mut Coverage::default()).err().unwrap_or(text);
+        if let Err(text) = damaged(once, &left, seen) {
+            let compared = |part: &[Event]| damaged(once, &played(part), &mut Coverage::default());
+            let small = smallest_list(&history, &BASE, |part| compared(part).is_err());
+            let why = compared(&small).err().unwrap_or(text);
             return Err(format!("{why}\non damage {once} after {}", described(&small)));
         }
     }

@@ -91,11 +91,13 @@ pub fn run_day(file: &[u8], shadow: Vec<u8>) -> (String, Option<Ledger>) {
         Err(fault) => return (refused_line(fault), None),
     };
     let mut ledger = Ledger::new(day.base, shadow);
-    let mut lines = String::new();
+    let (mut lines, mut started) = (String::new(), 0);
     for (i, e) in day.events.iter().enumerate() {
-        writeln!(lines, "{} {}", i + 1, ledger.sound_event(e)).expect("a string grows");
+        let answer = ledger.sound_event(e);
+        started += u64::from(matches!(answer, Answer::Started(_)));
+        writeln!(lines, "{} {answer}", i + 1).expect("a string grows");
     }
-    let (started, counters) = (ledger.table.started, ledger.table.counters);
+    let counters = ledger.table.counters;
     writeln!(lines, "end {started} {} {}", counters.top.0, counters.sub.0).expect("a string grows");
     (lines, Some(ledger))
 }

@@ -3,7 +3,7 @@
 use crate::before::Joins;
 use crate::dayfile::{counted_events, entry_at, MOST_EVENTS};
 use crate::header::*;
-use crate::model::{base_card, put_amount, Event, Ledger, State, Table};
+use crate::model::{base_card, put_amount, Event, Ledger};
 use crate::model::{CHARGE_ACCOUNTS, FIRST_CHARGE, MOST_ADDED, STORE};
 use crate::queue::Entry;
 use crate::random::Random;
@@ -28,8 +28,11 @@ const NEAR: u64 = 2 * MOST_ADDED as u64;
 const ANYONE: u64 = 12;
 /// One end in so many is a commit though a queue comes first, and one commit in so many by any leaf.
 const OVERTAKES: u64 = 10;
-/// One event in so many uses what hardly a table but a lent one has: a head that is ready, or reads whose times tell.
+/// One event in so many uses what hardly a table but a lent one has.
 const RARE: u64 = 2;
+/// One event in so many is by the one that stays, and so may end it; and one is a start though no number is free.
+const STAYER: u64 = 300;
+const HOPELESS: u64 = 24;
 /// A day mostly has fewer events than this.
 const SHORT_DAY: u64 = 120;
 /// The ways in which a day file is damaged.
@@ -62,10 +65,38 @@ impl Ending {
     }
 }
 
+/// How they follow each other: slowly, with many live side by side; fast, a few at a time, so that numbers are given
+/// again and again; or fast beside one that has read and stays, so that records are needed.
+#[derive(Clone, Copy, PartialEq, Eq)]
+pub enum Turnover {
+    Slow,
+    Fast,
+    Held,
+}
+
+impl Turnover {
+    /// As many live ones are enough: then nobody starts.
+    fn enough(self) -> usize {
+        match self {
+            Turnover::Slow => ACTIONS,
+            Turnover::Fast | Turnover::Held => 6,
+        }
+    }
+
+    /// Otherwise one event in so many is a start.
+    fn start_in(self) -> u64 {
+        match self {
+            Turnover::Slow => 5,
+            Turnover::Fast | Turnover::Held => 2,
+        }
+    }
+}
+
 #[derive(Clone, Copy)]
 pub struct Style {
     pub shape: Shape,
     pub ending: Ending,
+    pub turnover: Turnover,
 }
 
 pub fn bytes(r: &mut Random, n: usize) -> Vec<u8> {
@@ -119,6 +150,7 @@ fn added(r: &mut Random) -> i64 {
 
 /// Who may do something where a table stands.
 struct Stage {
+    /// In the order of their starts.
     live: Vec<u64>,
     /// Live and not queued.
     free: Vec<u64>,
@@ -130,24 +162,39 @@ struct Stage {
     /// Queued and not ready.
     unjudged: Vec<u64>,
     has_ready_head: bool,
-    /// Committers whose reads beside their parent's show how a join takes times.
-    telling: Vec<u64>,
+    /// Events, by code and number, that hardly a table but a lent one has: commits whose reads beside their parent's
+    /// show how a join takes times, or whose kept sum alone is no amount, and ends of a kind whose counter is at its
+    /// most.
+    rare: Vec<(u64, u64)>,
 }
 
 impl Stage {
-    fn of(t: &Table) -> Stage {
-        let live: Vec<u64> = (1..=t.started).filter(|&n| t.action(n).state == State::Live).collect();
-        let has_child = |n: u64| live.iter().any(|&m| t.action(m).parent == n);
+    fn of(w: &Ledger) -> Stage {
+        let t = &w.table;
+        let live: Vec<u64> = t.ever().iter().filter(|a| a.is_live()).map(|a| a.number).collect();
         let free: Vec<u64> = live.iter().copied().filter(|&n| !t.is_queued(n)).collect();
-        let leaves: Vec<u64> = free.iter().copied().filter(|&n| !has_child(n)).collect();
+        let leaves: Vec<u64> = free.iter().copied().filter(|&n| !t.has_live_child(n)).collect();
         let may_commit = |n: &u64| t.queue(t.action(*n).kind()).length == 0;
         let committers: Vec<u64> = leaves.iter().copied().filter(may_commit).collect();
-        let telling = committers.iter().copied().filter(|&n| Joins::of(t, n).is_telling()).collect();
+        let ends = |code| move |n: &u64| (code, *n);
+        let tells = |n: u64| Joins::of(t, n).is_telling() || w.only_kept_sum_fails(t.action(n));
+        let mut rare: Vec<(u64, u64)> = committers.iter().filter(|n| tells(**n)).map(ends(EVENT_COMMIT)).collect();
+        let counted_out = |n: &&u64| t.is_counted_out(t.action(**n).kind());
+        rare.extend(committers.iter().filter(counted_out).map(ends(EVENT_COMMIT)));
+        rare.extend(leaves.iter().filter(counted_out).map(ends(EVENT_ENTER)));
         let entries: Vec<&Entry> = t.queues.iter().flat_map(|queue| queue.waiting()).collect();
         let queued = entries.iter().map(|w| w.number).collect();
         let unjudged = entries.iter().filter(|w| !w.is_ready()).map(|w| w.number).collect();
         let has_ready_head = t.queues.iter().any(|queue| queue.ready_head().is_some());
-        Stage { live, free, leaves, committers, queued, unjudged, has_ready_head, telling }
+        Stage { live, free, leaves, committers, queued, unjudged, has_ready_head, rare }
+    }
+
+    /// Takes out one of the leaves, where there are others.
+    fn leave_out(&mut self, n: u64) {
+        if self.leaves.len() > 1 {
+            self.leaves.retain(|&m| m != n);
+            self.committers.retain(|&m| m != n);
+        }
     }
 }
 
@@ -214,6 +261,17 @@ pub fn event(r: &mut Random, w: &Ledger, style: Style, in_bytes: bool) -> Event 
     e
 }
 
+/// Whether the next event is a start.
+fn starts(r: &mut Random, w: &Ledger, stage: &Stage, turnover: Turnover) -> bool {
+    if stage.live.is_empty() {
+        return true;
+    }
+    if w.table.free_number().is_none() {
+        return r.one_in(HOPELESS);
+    }
+    stage.live.len() < turnover.enough() && r.one_in(turnover.start_in())
+}
+
 /// One part of an event made wrong, or one that it may not use made odd.
 fn spoil(r: &mut Random, e: &mut Event, in_bytes: bool) {
     match r.below(3) {
@@ -224,14 +282,24 @@ fn spoil(r: &mut Random, e: &mut Event, in_bytes: bool) {
 }
 
 fn likely(r: &mut Random, w: &Ledger, style: Style) -> Event {
-    let stage = Stage::of(&w.table);
+    let mut stage = Stage::of(w);
     let mut card = bytes(r, CARD_BYTES);
-    let full = w.table.started >= ACTIONS as u64;
-    if stage.live.is_empty() || (!full && r.one_in(5)) {
+    if !stage.rare.is_empty() && r.one_in(RARE) {
+        let (code, number) = *r.pick(&stage.rare);
+        return Event { code, number, account: 0, card };
+    }
+    if starts(r, w, &stage, style.turnover) {
         let parents = if r.one_in(ANYONE) { &stage.live } else { &stage.free };
         return Event { code: EVENT_START, number: start(r, parents, style.shape), account: 0, card };
     }
-    let code = code(r, &stage, style.ending);
+    if style.turnover == Turnover::Held && !r.one_in(STAYER) {
+        let number = stage.live[0];
+        if !w.table.action(number).has_read_any() && stage.leaves.contains(&number) {
+            return Event { code: EVENT_READ, number, account: account(r, EVENT_READ), card };
+        }
+        stage.leave_out(number);
+    }
+    let code = code(r, &stage, style);
     let number = actor(r, &stage, code);
     if code == EVENT_ADD {
         put_amount(&mut card, added(r));
@@ -239,23 +307,21 @@ fn likely(r: &mut Random, w: &Ledger, style: Style) -> Event {
     Event { code, number, account: account(r, code), card }
 }
 
-fn code(r: &mut Random, stage: &Stage, ending: Ending) -> u64 {
+fn code(r: &mut Random, stage: &Stage, style: Style) -> u64 {
     if stage.has_ready_head && r.one_in(RARE) {
         return *r.pick(&[EVENT_ABORT, EVENT_JUDGE]);
-    }
-    if !stage.telling.is_empty() && r.one_in(RARE) {
-        return EVENT_COMMIT;
     }
     if stage.leaves.is_empty() && !r.one_in(4) {
         return EVENT_JUDGE;
     }
-    match r.below(15) {
-        0..4 => EVENT_READ,
-        4..8 => EVENT_WRITE,
-        8..11 => EVENT_ADD,
-        11..14 => end(r, stage, ending),
-        _ if r.one_in(3) => EVENT_ABORT,
-        _ => EVENT_WRITE,
+    let reads = if style.turnover == Turnover::Slow { 4 } else { 2 };
+    match r.below(reads + 11) {
+        0..4 => EVENT_WRITE,
+        4..7 => EVENT_ADD,
+        7..10 => end(r, stage, style.ending),
+        10 if r.one_in(3) => EVENT_ABORT,
+        10 => EVENT_WRITE,
+        _ => EVENT_READ,
     }
 }
 
@@ -282,7 +348,6 @@ fn actor(r: &mut Random, stage: &Stage, code: u64) -> u64 {
     }
     match code {
         EVENT_JUDGE => pick_first(r, &[&stage.unjudged, &stage.queued, &stage.live]),
-        EVENT_COMMIT if !stage.telling.is_empty() => *r.pick(&stage.telling),
         EVENT_COMMIT if stage.committers.len() < stage.leaves.len() && !r.one_in(OVERTAKES) => {
             pick_first(r, &[&stage.committers, &stage.leaves])
         }
@@ -306,7 +371,8 @@ pub fn events(r: &mut Random, base: &[u8], count: usize, style: Style, in_bytes:
 
 pub fn style(r: &mut Random) -> Style {
     let shape = *r.pick(&[Shape::Deep, Shape::Wide, Shape::Mixed]);
-    Style { shape, ending: *r.pick(&[Ending::Commits, Ending::Queue, Ending::Either]) }
+    let ending = *r.pick(&[Ending::Commits, Ending::Queue, Ending::Either]);
+    Style { shape, ending, turnover: *r.pick(&[Turnover::Slow, Turnover::Fast, Turnover::Held]) }
 }
 
 // ---- day files

@@ -1,20 +1,23 @@
 //! The library over its C ABI, and the words of tables and reports as the second engine's structs: the one place that
 //! translates.
 
+use crate::action::{Action, Parent, Read, State};
 use crate::cause;
 use crate::header::*;
-use crate::model::{Action, Answer, Event, Read, Shown, State, Table, Version, CHARGE_ACCOUNTS};
+use crate::model::{Answer, Event, Figures, Shown, Version, CHARGE_ACCOUNTS};
 use crate::queue::{Entry, Queue};
+use crate::table::Table;
 use crate::times::{EndTime, Kind, Times, KINDS};
 use crate::tree::{Line, Tree};
 
-/// Words of row 0, the head. Counters and lengths are of each kind, in the order of `KINDS`.
-pub const STARTED: usize = 0;
+/// Words of row 0, the head. Counters and lengths are of each kind, in the order of `KINDS`. The store's kept sums are
+/// where those of an action are in its row.
+pub const HIGHEST: usize = 0;
 pub const COUNTERS: [usize; KINDS.len()] = [1, 2];
 pub const QUEUE_LENGTHS: [usize; KINDS.len()] = [3, 4];
 pub const HEAD_WORDS: usize = 5;
 /// Words of row n, action n. Each set and the subaction times of the reads have a word for every account, from here on,
-/// and the pending sums and own adds one for every charge account.
+/// and the pending sums, own adds and kept sums one for every charge account.
 pub const PARENT: usize = 0;
 pub const STATE: usize = 1;
 pub const END: usize = 2;
@@ -23,6 +26,7 @@ pub const WRITES: usize = READS + ACCOUNTS;
 pub const PENDING: usize = WRITES + ACCOUNTS;
 pub const OWN_ADDS: usize = PENDING + CHARGE_ACCOUNTS;
 pub const SUB_TIMES: usize = ENTRIES[Kind::Sub as usize] + ENTRY_WORDS;
+pub const KEPT: usize = SUB_TIMES + ACCOUNTS;
 /// Words of row i that are no part of action i: the entry at position i of each queue, from here on.
 pub const ENTRIES: [usize; KINDS.len()] = [OWN_ADDS + CHARGE_ACCOUNTS, OWN_ADDS + CHARGE_ACCOUNTS + ENTRY_WORDS];
 /// Words of an entry.
@@ -36,9 +40,10 @@ pub const COMMITTED: u64 = 2;
 pub const ABORTED: u64 = 3;
 /// Words of a report's line. The figures are two for every charge account, own adds and total.
 pub const LINE_NUMBER: usize = 1;
+pub const LINE_STATE: usize = 2;
 pub const LINE_FIGURES: usize = 3;
 
-const _: () = assert!(ROW_WORDS == SUB_TIMES + ACCOUNTS, "a row ends with the subaction times");
+const _: () = assert!(ROW_WORDS == KEPT + CHARGE_ACCOUNTS, "a row ends with the kept sums");
 const _: () = assert!(TABLE_WORDS == ROW_WORDS * (ACTIONS + 1), "a table is a head and a row for each action");
 const _: () = assert!(LINE_WORDS == LINE_FIGURES + 2 * CHARGE_ACCOUNTS, "a report's line ends with the figures");
 const _: () = assert!(BLOCK_AT == LINE_WORDS * ACTIONS, "a report has room for a line of each action");
@@ -273,6 +278,16 @@ fn state(word: u64) -> State {
     }
 }
 
+/// The state that a word says, by its name.
+pub fn state_said(word: u64) -> &'static str {
+    match word {
+        LIVE => "live",
+        COMMITTED => "committed",
+        ABORTED => "aborted",
+        _ => "of no state",
+    }
+}
+
 fn state_word(s: State) -> u64 {
     match s {
         State::Live => LIVE,
@@ -297,18 +312,28 @@ fn read_words(read: Read) -> [u64; 2] {
     }
 }
 
-fn action(row: &[u64]) -> Action {
-    let mut a = Action::new(row[PARENT]);
+fn figures(words: &[u64]) -> Figures {
+    std::array::from_fn(|c| words[c] as i64)
+}
+
+fn put_figures(figures: &Figures, words: &mut [u64]) {
+    for (word, &figure) in words.iter_mut().zip(figures) {
+        *word = figure as u64;
+    }
+}
+
+/// The action of a row, in a table of so many rows.
+fn action(row: &[u64], number: u64, rows: u64) -> Action {
+    let mut a = Action::new(number, Parent::in_row(row[PARENT], number, rows));
     a.state = state(row[STATE]);
     a.end = EndTime::new(a.kind(), row[END]);
     for k in 0..ACCOUNTS {
         a.reads[k] = read(row[READS + k], row[SUB_TIMES + k]);
         a.writes[k] = row[WRITES + k];
     }
-    for c in 0..CHARGE_ACCOUNTS {
-        a.pending[c] = row[PENDING + c] as i64;
-        a.own_adds[c] = row[OWN_ADDS + c] as i64;
-    }
+    a.pending = figures(&row[PENDING..]);
+    a.own_adds = figures(&row[OWN_ADDS..]);
+    a.kept = figures(&row[KEPT..]);
     a
 }
 
@@ -327,29 +352,31 @@ fn queue(words: &[u64], kind: Kind) -> Queue {
     Queue { length: words[QUEUE_LENGTHS[kind as usize]], places }
 }
 
-/// The structs that a table's words stand for; None for a table of another length.
+/// The structs that a table's words stand for; None for a table of another length. Rows above the highest number are
+/// nobody's.
 pub fn decode(words: &[u64]) -> Option<Table> {
     if words.len() != TABLE_WORDS {
         return None;
     }
-    let actions = words.chunks(ROW_WORDS).skip(1).map(action).collect();
+    let highest = words[HIGHEST];
+    let rows = highest.min(ACTIONS as u64);
+    let actions = words.chunks(ROW_WORDS).zip(0..=rows).skip(1).map(|(row, n)| action(row, n, rows)).collect();
     let [top, sub] = COUNTERS.map(|at| words[at]);
     let queues = KINDS.map(|kind| queue(words, kind));
-    Some(Table { started: words[STARTED], counters: Times::new(top, sub), actions, queues })
+    Some(Table::lent(highest, Times::new(top, sub), figures(&words[KEPT..]), queues, actions))
 }
 
-fn put_action(a: &Action, row: &mut [u64]) {
-    row[PARENT] = a.parent;
+fn put_action(a: &Action, parent: u64, row: &mut [u64]) {
+    row[PARENT] = parent;
     row[STATE] = state_word(a.state);
     row[END] = a.end.number();
     for k in 0..ACCOUNTS {
         [row[READS + k], row[SUB_TIMES + k]] = read_words(a.reads[k]);
         row[WRITES + k] = a.writes[k];
     }
-    for c in 0..CHARGE_ACCOUNTS {
-        row[PENDING + c] = a.pending[c] as u64;
-        row[OWN_ADDS + c] = a.own_adds[c] as u64;
-    }
+    put_figures(&a.pending, &mut row[PENDING..]);
+    put_figures(&a.own_adds, &mut row[OWN_ADDS..]);
+    put_figures(&a.kept, &mut row[KEPT..]);
 }
 
 fn put_queue(queue: &Queue, kind: Kind, words: &mut [u64]) {
@@ -359,15 +386,17 @@ fn put_queue(queue: &Queue, kind: Kind, words: &mut [u64]) {
     }
 }
 
-/// The table written over words of the right length; the head's other words stay.
+/// The table written over words of the right length; the head's other words stay, and the actions' words of rows above
+/// the highest number.
 pub fn encode(t: &Table, words: &mut [u64]) {
-    words[STARTED] = t.started;
+    words[HIGHEST] = t.highest;
     for kind in KINDS {
         words[COUNTERS[kind as usize]] = t.counters.number(kind);
         put_queue(t.queue(kind), kind, words);
     }
-    for (row, a) in words.chunks_mut(ROW_WORDS).skip(1).zip(&t.actions) {
-        put_action(a, row);
+    put_figures(&t.kept, &mut words[KEPT..]);
+    for (row, a) in words.chunks_mut(ROW_WORDS).skip(1).zip(t.held()) {
+        put_action(a, t.parent_number(a), row);
     }
 }
 

@@ -21,7 +21,7 @@ pub const STALE: u64 = 77;
 /// Words that a buffer for answers has too many.
 const SPARE: usize = 5;
 /// A list is at most as long as one of these.
-const LONGEST: [u64; 5] = [50, 250, 250, 250, 700];
+const LONGEST: [u64; 5] = [50, 250, 250, 700, 2_000];
 
 /// The stores that a list begins with.
 pub struct Opening {
@@ -95,9 +95,10 @@ fn list(opening: &Opening, events: &[Event], seen: &mut Coverage) -> Compared {
         played.event(e, seen)?;
     }
     let Played { lent, ledger, answers, left, given, .. } = played;
-    same("the three numbers", lent.three_numbers(), (ledger.table.started, ledger.table.counters))?;
+    same("the three numbers", lent.three_numbers(), (ledger.table.highest, ledger.table.counters))?;
     seen.lists += 1;
-    tree_of_list(&lent, &opening.base, seen)?;
+    seen.numbers.list(&ledger.table);
+    tree_of_list(&lent, &ledger.table, &opening.base, seen)?;
     let fed = Fed { events, answers: &answers, left: &left };
     held_to_serial_run(opening, fed, &given, &lent.base, seen)?;
     nothing_lost(opening, fed, &lent.base, seen)?;

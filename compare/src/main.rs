@@ -1,6 +1,7 @@
 //! compare: the library beside a second engine, by results (`check`) and by time (`bench`); or the second engine alone
 //! on a day file (`lines`, `tree`).
 
+mod action;
 mod before;
 mod bench;
 mod calls;
@@ -9,6 +10,7 @@ mod cause;
 mod check;
 mod coverage;
 mod damage;
+mod damage_parents;
 mod damage_queues;
 mod damaged;
 mod dayfile;
@@ -19,6 +21,8 @@ mod kind_cases;
 mod library;
 mod lists;
 mod model;
+mod number_cases;
+mod number_coverage;
 mod queue;
 mod queue_cases;
 mod queue_coverage;
@@ -28,6 +32,7 @@ mod scripts;
 mod serial;
 mod shrink;
 mod sound;
+mod table;
 mod times;
 mod tree;
 mod trees;

@@ -1,10 +1,12 @@
-//! The second engine: the rules of docs/RULES.md, with actions as structs. It shares no code and no shape with the
-//! library; sizes and codes it takes from the C header, as any caller does.
+//! The second engine: the rules of docs/RULES.md, with actions as structs, all of them kept. It shares no code and no
+//! shape with the library; sizes and codes it takes from the C header, as any caller does.
 
+use crate::action::{Action, Parent, Read, State};
 use crate::cause;
 use crate::header::*;
-use crate::queue::{Entry, Queue};
-use crate::times::{EndTime, Kind, Times, KINDS};
+use crate::queue::Entry;
+use crate::table::Table;
+use crate::times::{EndTime, Kind};
 
 const _: () = assert!(BASE_BYTES == ACCOUNTS * CARD_BYTES, "the base store has a card for each account");
 const _: () = assert!(SHADOW_BYTES == ACTIONS * BASE_BYTES, "the shadow store has as much for each action");
@@ -20,7 +22,14 @@ pub const MOST_ADDED: i64 = 1_000_000;
 /// An amount stands in the front of a charge account's card.
 pub const AMOUNT_BYTES: usize = 8;
 
+/// Counter and queue of a kind come to this at most.
+pub const MOST_COUNTED: u64 = 4_000_000_000;
+
 pub type Card = [u8; CARD_BYTES];
+
+/// A figure for each charge account.
+pub type Figures = [i64; CHARGE_ACCOUNTS];
+pub const NO_FIGURES: Figures = [0; CHARGE_ACCOUNTS];
 
 /// Which of the charge accounts it is, from 0; None for another account.
 pub fn charge_of(account: usize) -> Option<usize> {
@@ -41,197 +50,11 @@ pub fn as_amount(sum: i128) -> Result<i64, u64> {
     sum.try_into().map_err(|_| cause::SUM)
 }
 
-#[derive(Clone, Copy, PartialEq, Eq, Debug)]
-pub enum State {
-    Live,
-    Committed,
-    Aborted,
-    Unknown(u64),
-}
-
-/// Whether an account is in an action's read set.
-#[derive(Clone, Copy, PartialEq, Eq, Debug)]
-pub enum Read {
-    /// It is not. The word is what stands in place of the subaction time, any in a lent table, and nobody looks at it.
-    Not(u64),
-    /// It is, with the times of the first read that counts.
-    At(Times),
-}
-
-impl Read {
-    pub fn times(self) -> Option<Times> {
-        match self {
-            Read::Not(_) => None,
-            Read::At(times) => Some(times),
-        }
-    }
-}
-
-#[derive(Clone, PartialEq, Eq, Debug)]
-pub struct Action {
-    pub parent: u64,
-    pub state: State,
-    pub end: EndTime,
-    pub reads: [Read; ACCOUNTS],
-    /// Not 0 for each account in the write set.
-    pub writes: [u64; ACCOUNTS],
-    /// The pending sum of each charge account.
-    pub pending: [i64; CHARGE_ACCOUNTS],
-    /// What it has added to each charge account itself.
-    pub own_adds: [i64; CHARGE_ACCOUNTS],
-}
-
-impl Action {
-    pub fn new(parent: u64) -> Action {
-        let end = EndTime::new(Kind::under(parent), 0);
-        let (reads, writes) = ([Read::Not(0); ACCOUNTS], [0; ACCOUNTS]);
-        let (pending, own_adds) = ([0; CHARGE_ACCOUNTS], [0; CHARGE_ACCOUNTS]);
-        Action { parent, state: State::Live, end, reads, writes, pending, own_adds }
-    }
-
-    pub fn kind(&self) -> Kind {
-        Kind::under(self.parent)
-    }
-
-    /// Whether it has a card of its own for the account; of a charge account nobody has one.
-    pub fn has_card(&self, account: usize) -> bool {
-        charge_of(account).is_none() && self.writes[account] != 0
-    }
-
-    fn has_read(&self, account: usize) -> bool {
-        self.reads[account].times().is_some()
-    }
-
-    pub fn has_charged(&self, charge: usize) -> bool {
-        self.writes[FIRST_CHARGE + charge] != 0
-    }
-
-    fn wrote_something(&self) -> bool {
-        self.writes.iter().any(|&w| w != 0)
-    }
-
-    pub fn is_writer(&self) -> bool {
-        self.state == State::Committed && self.wrote_something()
-    }
-}
-
 /// The nearest version of an account: the action or the store that has it, and how many moves up lead there.
 #[derive(Clone, Copy, PartialEq, Eq, Debug)]
 pub struct Version {
     pub holder: u64,
     pub moves: u64,
-}
-
-#[derive(Clone, PartialEq, Eq, Debug)]
-pub struct Table {
-    pub started: u64,
-    pub counters: Times,
-    /// Action n is the entry n - 1; entries above the highest number may hold anything.
-    pub actions: Vec<Action>,
-    /// The queue of each kind, in the order of `KINDS`.
-    pub queues: [Queue; KINDS.len()],
-}
-
-impl Table {
-    pub fn new() -> Table {
-        let nothing = Action { state: State::Unknown(0), ..Action::new(STORE) };
-        let queues = KINDS.map(|_| Queue::new());
-        Table { started: 0, counters: Times::ZERO, actions: vec![nothing; ACTIONS], queues }
-    }
-
-    pub fn action(&self, n: u64) -> &Action {
-        &self.actions[n as usize - 1]
-    }
-
-    fn action_mut(&mut self, n: u64) -> &mut Action {
-        &mut self.actions[n as usize - 1]
-    }
-
-    pub fn begun(&self) -> &[Action] {
-        &self.actions[..self.started as usize]
-    }
-
-    pub fn queue(&self, kind: Kind) -> &Queue {
-        &self.queues[kind as usize]
-    }
-
-    pub fn queue_mut(&mut self, kind: Kind) -> &mut Queue {
-        &mut self.queues[kind as usize]
-    }
-
-    /// The queue of an action's kind.
-    fn queue_of(&self, n: u64) -> &Queue {
-        self.queue(self.action(n).kind())
-    }
-
-    fn queue_of_mut(&mut self, n: u64) -> &mut Queue {
-        self.queue_mut(self.action(n).kind())
-    }
-
-    /// Whether it waits in either queue.
-    pub fn is_queued(&self, n: u64) -> bool {
-        self.queues.iter().any(|queue| queue.is_queued(n))
-    }
-
-    pub fn has_live_child(&self, n: u64) -> bool {
-        self.begun().iter().any(|a| a.parent == n && a.state == State::Live)
-    }
-
-    fn is_at_or_below(&self, mut n: u64, top: u64) -> bool {
-        while n != STORE {
-            if n == top {
-                return true;
-            }
-            n = self.action(n).parent;
-        }
-        false
-    }
-
-    /// Climbs from an action to the first that has the account's card, and counts its moves; the last may be to the store.
-    pub fn nearest(&self, n: u64, account: usize) -> Version {
-        let mut at = Version { holder: n, moves: 0 };
-        while at.holder != STORE && !self.action(at.holder).has_card(account) {
-            at.holder = self.action(at.holder).parent;
-            at.moves += 1;
-        }
-        at
-    }
-
-    /// What an action and all above it have pending for a charge account, together.
-    fn pending_above(&self, mut n: u64, charge: usize) -> i128 {
-        let mut sum = 0;
-        while n != STORE {
-            sum += i128::from(self.action(n).pending[charge]);
-            n = self.action(n).parent;
-        }
-        sum
-    }
-
-    /// The first clash: by end time, then by account. The records are of one kind, so their end times are compared.
-    pub fn first_clash(&self, n: u64) -> Option<(EndTime, u64)> {
-        let me = self.action(n);
-        let mut first = None;
-        for b in self.begun() {
-            if b.state != State::Committed || b.parent != me.parent {
-                continue;
-            }
-            for k in 0..ACCOUNTS {
-                let read_before = matches!(me.reads[k], Read::At(times) if b.end.is_after(times));
-                let clash = (b.end, k as u64);
-                if b.writes[k] != 0 && read_before && first.is_none_or(|f| clash < f) {
-                    first = Some(clash);
-                }
-            }
-        }
-        first
-    }
-
-    /// Whether an action that enters its queue now has failed: for a clash, or for what a queued sibling has written.
-    fn fails_at_enter(&self, n: u64) -> bool {
-        let me = self.action(n);
-        let meets = |b: &Action| b.parent == me.parent && (0..ACCOUNTS).any(|k| b.writes[k] != 0 && me.has_read(k));
-        self.first_clash(n).is_some() || self.queue_of(n).waiting().iter().any(|w| meets(self.action(w.number)))
-    }
 }
 
 #[derive(Clone, PartialEq, Eq, Debug)]
@@ -310,8 +133,14 @@ fn shadow_card(n: u64, account: usize) -> std::ops::Range<usize> {
     from..from + CARD_BYTES
 }
 
-/// What a commit leaves of each charge account; none where the action has not added to it.
-type Sums = [Option<i64>; CHARGE_ACCOUNTS];
+/// Pending sum or base amount that a commit leaves of each charge account; none where the action has not added to it.
+type Settled = [Option<i64>; CHARGE_ACCOUNTS];
+
+/// What a commit leaves at the parent, or in the store.
+struct Sums {
+    settled: Settled,
+    kept: Figures,
+}
 
 impl Ledger {
     pub fn new(base: Vec<u8>, shadow: Vec<u8>) -> Ledger {
@@ -326,7 +155,7 @@ impl Ledger {
         (!self.table.is_sound()).then_some(cause::UNSOUND)
     }
 
-    /// The causes 3 to 8, 13, 14, 9, 16, 17 and 18, in this order: all that are left but 15, which is asked where a sum
+    /// The causes 3 to 8, 13, 14, 9 and 16 to 19, in this order: all that are left but 15, which is asked where a sum
     /// is made.
     fn event_cause(&self, e: &Event) -> Option<u64> {
         let t = &self.table;
@@ -334,16 +163,17 @@ impl Ledger {
             return Some(cause::CODE);
         }
         let starts = e.code == EVENT_START;
-        if e.number > t.started || (e.number == STORE && !starts) {
+        if e.number > t.highest || (e.number == STORE && !starts) {
             return Some(cause::NUMBER);
         }
-        if e.number != STORE && t.action(e.number).state != State::Live {
+        if e.number != STORE && !t.action(e.number).is_live() {
             return Some(cause::NOT_LIVE);
         }
-        if starts && t.started >= ACTIONS as u64 {
-            return Some(cause::TABLE_FULL);
+        if starts && t.free_number().is_none() {
+            return Some(cause::NO_NUMBER);
         }
-        account_cause(e).or_else(|| self.child_cause(e)).or_else(|| self.queue_cause(e))
+        let beside = || self.child_cause(e).or_else(|| self.queue_cause(e)).or_else(|| self.counter_cause(e));
+        account_cause(e).or_else(beside)
     }
 
     /// Cause 9.
@@ -362,6 +192,14 @@ impl Ledger {
             EVENT_COMMIT => (t.queue_of(n).length != 0).then_some(cause::QUEUE_FIRST),
             _ => None,
         }
+    }
+
+    /// Cause 19.
+    fn counter_cause(&self, e: &Event) -> Option<u64> {
+        if !matches!(e.code, EVENT_COMMIT | EVENT_ENTER) {
+            return None;
+        }
+        self.table.is_counted_out(self.table.action(e.number).kind()).then_some(cause::COUNTED_OUT)
     }
 
     /// One event on any table and stores.
@@ -406,10 +244,9 @@ impl Ledger {
     }
 
     fn start(&mut self, parent: u64) -> Answer {
-        self.table.started += 1;
-        let n = self.table.started;
-        *self.table.action_mut(n) = Action::new(parent);
-        Answer::Started(n)
+        let number = self.table.free_number().expect("a number is free");
+        self.table.give(number, self.table.parent_named(parent));
+        Answer::Started(number)
     }
 
     /// The sum of a charge account as an action sees it; none for another account.
@@ -463,46 +300,65 @@ impl Ledger {
         me.state = State::Committed;
         me.end = end;
         let me = me.clone();
-        self.hand_up_cards(n, &me);
-        self.hand_up_sums(me.parent, sums);
-        if me.parent != STORE {
-            join(self.table.action_mut(me.parent), &me);
+        match me.parent {
+            Parent::Action(place) => self.join(self.table.at(place).number, &me, sums),
+            _ => self.settle(&me, sums),
         }
         end
     }
 
-    /// What an action's commit leaves of each charge account in its write set, at its parent or in the base store.
+    /// What an action's commit leaves, where all of it are amounts.
     fn sums_left(&self, me: &Action) -> Result<Sums, u64> {
-        let mut sums = [None; CHARGE_ACCOUNTS];
+        Ok(Sums { settled: self.settled_by(me)?, kept: self.kept_by(me)? })
+    }
+
+    /// Whether a kept sum is all that keeps its sums from being amounts.
+    pub fn only_kept_sum_fails(&self, me: &Action) -> bool {
+        self.settled_by(me).is_ok() && self.kept_by(me).is_err()
+    }
+
+    fn settled_by(&self, me: &Action) -> Result<Settled, u64> {
+        let parent = me.parent.place().map(|place| self.table.at(place));
+        let mut settled = [None; CHARGE_ACCOUNTS];
         for c in (0..CHARGE_ACCOUNTS).filter(|&c| me.has_charged(c)) {
-            let above = match me.parent {
-                STORE => amount_in(&self.base[base_card(FIRST_CHARGE + c)]),
-                parent => self.table.action(parent).pending[c],
-            };
-            sums[c] = Some(as_amount(i128::from(above) + i128::from(me.pending[c]))?);
+            let above =
+                parent.map_or_else(|| amount_in(&self.base[base_card(FIRST_CHARGE + c)]), |parent| parent.pending[c]);
+            settled[c] = Some(as_amount(i128::from(above) + i128::from(me.pending[c]))?);
         }
-        Ok(sums)
+        Ok(settled)
     }
 
-    fn hand_up_sums(&mut self, parent: u64, sums: &Sums) {
-        for (c, sum) in sums.iter().enumerate() {
-            let Some(sum) = *sum else { continue };
-            match parent {
-                STORE => put_amount(&mut self.base[base_card(FIRST_CHARGE + c)], sum),
-                _ => self.table.action_mut(parent).pending[c] = sum,
-            }
+    fn kept_by(&self, me: &Action) -> Result<Figures, u64> {
+        let mut kept = me.parent.place().map_or(self.table.kept, |place| self.table.at(place).kept);
+        for (sum, total) in kept.iter_mut().zip(me.total()) {
+            *sum = as_amount(i128::from(*sum) + total)?;
         }
+        Ok(kept)
     }
 
-    fn hand_up_cards(&mut self, n: u64, me: &Action) {
+    /// A topaction's cards and sums become the store's.
+    fn settle(&mut self, me: &Action, sums: &Sums) {
         for k in (0..ACCOUNTS).filter(|&k| me.has_card(k)) {
-            let own = shadow_card(n, k);
-            if me.parent == STORE {
-                self.base[base_card(k)].copy_from_slice(&self.shadow[own]);
-            } else {
-                self.shadow.copy_within(own, shadow_card(me.parent, k).start);
-            }
+            self.base[base_card(k)].copy_from_slice(&self.shadow[shadow_card(me.number, k)]);
         }
+        for (c, sum) in sums.settled.iter().enumerate() {
+            let Some(sum) = *sum else { continue };
+            put_amount(&mut self.base[base_card(FIRST_CHARGE + c)], sum);
+        }
+        self.table.kept = sums.kept;
+    }
+
+    /// A subaction's cards, sums and sets become its parent's.
+    fn join(&mut self, parent: u64, me: &Action, sums: &Sums) {
+        for k in (0..ACCOUNTS).filter(|&k| me.has_card(k)) {
+            self.shadow.copy_within(shadow_card(me.number, k), shadow_card(parent, k).start);
+        }
+        let parent = self.table.action_mut(parent);
+        for (pending, sum) in parent.pending.iter_mut().zip(sums.settled) {
+            *pending = sum.unwrap_or(*pending);
+        }
+        parent.kept = sums.kept;
+        join_sets(parent, me);
     }
 
     fn enter(&mut self, n: u64) -> Answer {
@@ -546,9 +402,9 @@ impl Ledger {
     }
 
     fn abort(&mut self, n: u64) -> Outcome {
-        let fallen: Vec<u64> = (1..=self.table.started)
-            .filter(|&m| self.table.action(m).state == State::Live && self.table.is_at_or_below(m, n))
-            .collect();
+        let (t, top) = (&self.table, self.table.parent_named(n));
+        let falls = |a: &&Action| a.number == n || t.is_below(a, top);
+        let fallen: Vec<u64> = t.live().filter(falls).map(|a| a.number).collect();
         for &m in &fallen {
             self.table.action_mut(m).state = State::Aborted;
         }
@@ -602,7 +458,7 @@ fn account_cause(e: &Event) -> Option<u64> {
 
 /// The union of both sets; of two read times the smaller, for each kind apart. Where the parent has a card of its own
 /// already, its child's read stays behind.
-fn join(parent: &mut Action, child: &Action) {
+fn join_sets(parent: &mut Action, child: &Action) {
     for k in 0..ACCOUNTS {
         if !parent.has_card(k) {
             parent.reads[k] = match (parent.reads[k], child.reads[k]) {

@@ -1,5 +1,5 @@
-//! Cases of a queue, as scripts: the worked cases of docs/RULES.md, 13, that the queues and the counters brought or
-//! changed, and points of one queue, mostly the topactions', that a reader could have taken otherwise.
+//! Cases of a queue, as scripts: the worked cases of docs/RULES.md, 13, that have to do with queues and counters, and
+//! points of one queue, mostly the topactions', that a reader could have taken otherwise.
 
 use crate::header::ACTIONS;
 
@@ -28,8 +28,8 @@ const WORKED: &[Case] = &[
     ),
     (
         "20",
-        "+0; +1; r 2 3 = read 0 2; w 2 3 1; c 2 = committed 1; +0; w 3 3 2; c 3 = committed 1; c 1 = failed 1 3;
-         card 3 = 2",
+        "+0; +1; r 2 3 = read 0 2; w 2 3 1; c 2 = committed 1; +0 = started 2; w 2 3 2; c 2 = committed 1;
+         c 1 = failed 1 3; card 3 = 2",
     ),
     ("26", "+0; +0; w 1 5 7; w 2 5 8; e 1; e 2; j 2 = ready 0; j 1 = ready 2; counters = 2 0; card 5 = 8"),
     ("27", "+0; +0; r 2 0 = read 0 1; w 1 0 1; e 1; e 2; j 1 = ready 1; j 2 = failed 0; counters = 1 0"),
@@ -47,12 +47,13 @@ const WORKED: &[Case] = &[
     ),
     (
         "32",
-        "+0; +1; w 2 0 1; c 2 = committed 1; +1; w 3 0 2; c 3 = committed 2; +0; r 4 1 = read 0 1; +0; w 5 1 3;
-         c 5 = committed 1; c 4 = failed 1 1",
+        "+0; +1; w 2 0 1; c 2 = committed 1; +1 = started 2; w 2 0 2; c 2 = committed 2; +0 = started 2;
+         r 2 1 = read 0 1; +0; w 3 1 3; c 3 = committed 1; c 2 = failed 1 1",
     ),
     (
         "33",
-        "+0; w 1 9 1; c 1 = committed 1; +0; +2; +2; r 4 0 = read 0 2; w 3 0 2; c 3 = committed 1; c 4 = failed 1 0",
+        "+0; w 1 9 1; c 1 = committed 1; +0 = started 1; +1; +1; r 3 0 = read 0 2; w 2 0 2; c 2 = committed 1;
+         c 3 = failed 1 0",
     ),
     (
         "34",
@@ -67,8 +68,8 @@ const WORKED: &[Case] = &[
     ("36", "+0; +0; +2; e 1; c 3 = committed 0; c 2 = refused 18; counters = 0 0"),
     (
         "37",
-        "+0; +1; +2; r 3 6 = read 0 3; +1; w 4 6 1; c 4 = committed 1; +2; r 5 6 = read 1 2; c 3 = committed 0; c 5 = committed 0;
-         c 2 = failed 1 6; counters = 0 1",
+        "+0; +1; +2; r 3 6 = read 0 3; +1; w 4 6 1; c 4 = committed 1; +2; r 5 6 = read 1 2; c 3 = committed 0;
+         c 5 = committed 0; c 2 = failed 1 6; counters = 0 1",
     ),
 ];
 
@@ -172,7 +173,7 @@ const LEAVING: &[Case] = &[
     ),
     (
         "a commit with an empty queue",
-        "+0; +0; w 1 0 1; c 1 = committed 1; e 2; j 2 = ready 1; +0; w 3 0 1; c 3 = committed 2",
+        "+0; +0; w 1 0 1; c 1 = committed 1; e 2; j 2 = ready 1; +0 = started 1; w 1 0 1; c 1 = committed 2",
     ),
 ];
 
@@ -194,8 +195,8 @@ const ABORTS: &[Case] = &[
     ("one that does not wait, beside a queue", "+0; +0; e 1; a 2 = aborted 1 0; length = 1; state 1 = live"),
     (
         "one that leaves as aborted for its sums is not among the aborted",
-        "amount 24 9223372036854775807; +0; +0; d 2 24 1; e 1; e 2; j 2 = ready 0; a 1 = aborted 1 1;
-         state 2 = aborted; counters = 0 0",
+        "amount 24 9223372036854775807; +0; +0; d 2 24 1; e 1; e 2; j 2 = ready 0; a 1 = aborted 1 1; state 2 = aborted;
+         counters = 0 0",
     ),
 ];
 

@@ -2,8 +2,9 @@
 
 use crate::before::Before;
 use crate::coverage::{row, Point};
-use crate::model::{Answer, Leaver, Outcome, Table};
+use crate::model::{Answer, Leaver, Outcome};
 use crate::queue::Queue;
+use crate::table::Table;
 use crate::times::{Kind, KINDS};
 use std::collections::BTreeMap;
 use std::fmt;

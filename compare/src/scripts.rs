@@ -1,19 +1,27 @@
 //! Cases as scripts, in the words of docs/RULES.md, 13. A step is an event, with its answer behind ` = ` where that is
 //! not just started, written, added or entered; or something that is put into what is lent, or asked of it, between
-//! events: `entry` and `length` are of the topactions' queue, `sub-entry` and `sub-length` of the subactions'. Both
-//! engines are held to every step.
+//! events: `entry` and `length` are of the topactions' queue, `sub-entry` and `sub-length` of the subactions', and a
+//! `kept` sum of 0 is the store's. `tree` asks for the lines of the tree, with the accounts that are not 0, each
+//! with own adds and total, and for the accounts of its last block that are not all 0. Amounts that are put are also
+//! those of the opening store. Both engines are held to every step.
 
+use crate::coverage::Coverage;
 use crate::header::*;
-use crate::library::{decode, encode, Lent, ABORTED, COMMITTED, LIVE};
-use crate::library::{COUNTERS, END, ENTRIES, ENTRY_WORDS, PENDING, QUEUE_LENGTHS, READS, STATE, SUB_TIMES};
-use crate::model::{amount_in, base_card, put_amount, Answer, Event, Ledger, Shown, Table, FIRST_CHARGE};
+use crate::library::{decode, encode, state_said, Lent};
+use crate::library::{COUNTERS, END, ENTRIES, ENTRY_WORDS, HIGHEST, KEPT, OWN_ADDS, PARENT};
+use crate::library::{PENDING, QUEUE_LENGTHS, READS, STATE, SUB_TIMES, WRITES};
+use crate::model::{amount_in, base_card, put_amount, Answer, Event, Ledger, Shown, FIRST_CHARGE};
 use crate::same::{same, same_lent, Compared};
+use crate::table::Table;
 use crate::times::Kind;
+use crate::trees::tree;
 
 /// Both engines on one ledger, which is the same after every step.
 struct Both {
     lent: Lent,
     ledger: Ledger,
+    /// The base store that the tree is told it began with.
+    opening: Vec<u8>,
 }
 
 fn number(word: &str) -> i128 {
@@ -46,13 +54,14 @@ fn event(verb: &str, numbers: &[i128]) -> Event {
     }
 }
 
-fn state(word: u64) -> &'static str {
-    match word {
-        LIVE => "live",
-        COMMITTED => "committed",
-        ABORTED => "aborted",
-        _ => "of no state",
-    }
+/// The word of a row that has a charge account's figure.
+fn figure(verb: &str, account: i128) -> usize {
+    let first = match verb {
+        "pending" => PENDING,
+        "own" => OWN_ADDS,
+        _ => KEPT,
+    };
+    first + account as usize - FIRST_CHARGE
 }
 
 fn joined(words: impl IntoIterator<Item = u64>) -> String {
@@ -97,7 +106,8 @@ impl Both {
     fn new() -> Both {
         let (base, shadow) = (vec![0; BASE_BYTES], vec![0; SHADOW_BYTES]);
         let lent = Lent { table: vec![0; TABLE_WORDS], base: base.clone(), shadow: shadow.clone() };
-        Both { lent, ledger: Ledger { table: Table::new(), base, shadow } }
+        let ledger = Ledger { table: Table::new(), base: base.clone(), shadow };
+        Both { lent, ledger, opening: base }
     }
 
     /// A word of row n.
@@ -109,11 +119,17 @@ impl Both {
     fn put(&mut self, verb: &str, numbers: &[i128]) -> bool {
         match (verb, numbers) {
             ("amount", &[account, amount]) => {
-                put_amount(&mut self.lent.base[base_card(account as usize)], amount as i64)
+                for store in [&mut self.lent.base, &mut self.opening] {
+                    put_amount(&mut store[base_card(account as usize)], amount as i64);
+                }
             }
-            ("pending", &[n, account, sum]) => {
-                *self.word(n, PENDING + account as usize - FIRST_CHARGE) = sum as i64 as u64
+            ("pending" | "own" | "kept", &[n, account, sum]) => {
+                *self.word(n, figure(verb, account)) = sum as i64 as u64
             }
+            ("parent", &[n, parent]) => *self.word(n, PARENT) = parent as u64,
+            ("state", &[n, state]) => *self.word(n, STATE) = state as u64,
+            ("wrote", &[n, account, entry]) => *self.word(n, WRITES + account as usize) = entry as u64,
+            ("highest", &[number]) => *self.word(0, HIGHEST) = number as u64,
             ("end", &[n, time]) => *self.word(n, END) = time as u64,
             ("counters", &[top, sub]) => {
                 for (at, counter) in COUNTERS.into_iter().zip([top, sub]) {
@@ -152,7 +168,11 @@ impl Both {
             ("card", &[account]) => fill(&self.lent.base[base_card(account as usize)]),
             ("counters", []) => joined(COUNTERS.map(|at| *self.word(0, at))),
             ("length" | "sub-length", []) => self.word(0, QUEUE_LENGTHS[queue(verb)]).to_string(),
-            ("state", &[n]) => state(*self.word(n, STATE)).to_string(),
+            ("state", &[n]) => state_said(*self.word(n, STATE)).to_string(),
+            ("parent", &[n]) => self.word(n, PARENT).to_string(),
+            ("highest", []) => self.word(0, HIGHEST).to_string(),
+            ("pending" | "own" | "kept", &[n, account]) => (*self.word(n, figure(verb, account)) as i64).to_string(),
+            ("tree", []) => tree(&self.lent, &self.opening, &mut Coverage::default())?.to_string(),
             ("end", &[n]) => self.word(n, END).to_string(),
             ("times", &[n, account]) => self.times_said(n, account as usize),
             ("sub-time", &[n, account]) => self.word(n, SUB_TIMES + account as usize).to_string(),
@@ -172,10 +192,10 @@ impl Both {
     }
 
     fn event(&mut self, e: &Event, said: Option<&str>) -> Compared {
+        let table = self.lent.table.clone();
         let (a, theirs) = (self.lent.event(e), self.ledger.event(e));
         same("answer", a, theirs)?;
-        let mut after =
-            Lent { base: self.ledger.base.clone(), shadow: self.ledger.shadow.clone(), ..self.lent.clone() };
+        let mut after = Lent { table, base: self.ledger.base.clone(), shadow: self.ledger.shadow.clone() };
         encode(&self.ledger.table, &mut after.table);
         same_lent(&self.lent, &after)?;
         match said {
@@ -202,12 +222,17 @@ impl Both {
     }
 }
 
+/// A step without the line breaks that a script may have.
+fn one_line(step: &str) -> String {
+    step.split_whitespace().collect::<Vec<_>>().join(" ")
+}
+
 /// A script on a new table over stores of zeros, its steps parted by semicolons.
 pub fn check_script(script: &str) -> Compared {
     let mut both = Both::new();
-    for step in script.split(';').map(str::trim) {
-        both.step(step).map_err(|text| format!("{text}\nat the step {step}"))?;
+    for step in script.split(';').map(one_line) {
+        both.step(&step).map_err(|text| format!("{text}\nat the step {step}"))?;
     }
     let table = &both.ledger.table;
-    same("the three numbers", both.lent.three_numbers(), (table.started, table.counters))
+    same("the three numbers", both.lent.three_numbers(), (table.highest, table.counters))
 }

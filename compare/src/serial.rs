@@ -1,10 +1,10 @@
 //! The serial run of R (docs/RULES.md, 6), from the events, the answers they got, who committed by leaving a queue at
-//! each, and the opening base store alone.
+//! each, and the opening base store alone. Actions are told apart by their starts, as numbers are given again.
 
 use crate::header::ACCOUNTS;
 use crate::model::{amount_in, base_card, charge_of, put_amount, Answer, Card, Event};
 use crate::model::{CHARGE_ACCOUNTS, FIRST_CHARGE, STORE};
-use std::collections::HashMap;
+use std::collections::{HashMap, HashSet};
 
 /// What it is fed beside the opening store. Of each event there is an answer, and a list of those that committed by
 /// leaving a queue at it, in the order in which they left.
@@ -30,11 +30,46 @@ impl<'a> Fed<'a> {
     }
 }
 
+/// An action, by its start: the first start's is 1. The store stands before them all.
+type Start = usize;
+const NO_START: Start = 0;
+
+/// The starts so far.
+#[derive(Default)]
+struct Starts {
+    /// The last one that gave a number.
+    latest: HashMap<u64, Start>,
+    /// The parent of each, the first start's first.
+    parents: Vec<Start>,
+}
+
+impl Starts {
+    /// Whom a number means now.
+    fn named(&self, number: u64) -> Start {
+        match number {
+            STORE => NO_START,
+            _ => self.latest[&number],
+        }
+    }
+
+    fn parent(&self, start: Start) -> Start {
+        self.parents[start - 1]
+    }
+
+    /// Takes note of an event that may be a start.
+    fn note(&mut self, e: &Event, a: Answer) {
+        if let Answer::Started(number) = a {
+            self.parents.push(self.named(e.number));
+            self.latest.insert(number, self.parents.len());
+        }
+    }
+}
+
 enum Step {
     Read { event: usize, account: usize },
     Write { account: usize, card: Card },
     Add { charge: usize, amount: i64 },
-    Child { number: u64 },
+    Child { start: Start },
 }
 
 /// What a read is given: a card, and of a charge account an amount.
@@ -57,7 +92,7 @@ struct Own {
 }
 
 struct Run {
-    blocks: HashMap<u64, Vec<Step>>,
+    blocks: HashMap<Start, Vec<Step>>,
     /// The actions under way, the topaction first.
     under_way: Vec<Own>,
     out: Serial,
@@ -67,27 +102,26 @@ pub fn serial_run(fed: Fed, opening: &[u8]) -> Serial {
     let blocks = collect(fed);
     let out = Serial { reads: HashMap::new(), base: opening.to_vec() };
     let mut run = Run { blocks, under_way: Vec::new(), out };
-    for top in run.blocks.remove(&STORE).unwrap_or_default() {
-        if let Step::Child { number } = top {
-            run.block(number);
+    for top in run.blocks.remove(&NO_START).unwrap_or_default() {
+        if let Step::Child { start } = top {
+            run.block(start);
         }
     }
     run.out
 }
 
 /// Each action's block; the store's has the topactions that committed, in the order of their commits.
-fn collect(fed: Fed) -> HashMap<u64, Vec<Step>> {
-    let mut blocks: HashMap<u64, Vec<Step>> = HashMap::new();
-    let mut parents: HashMap<u64, u64> = HashMap::new();
+fn collect(fed: Fed) -> HashMap<Start, Vec<Step>> {
+    let mut blocks: HashMap<Start, Vec<Step>> = HashMap::new();
+    let mut starts = Starts::default();
     for (event, (e, a)) in fed.told().enumerate() {
-        if let Answer::Started(n) = a {
-            parents.insert(n, e.number);
-        }
+        starts.note(e, a);
         if let Some(step) = own_step(event, e, a) {
-            blocks.entry(e.number).or_default().push(step);
+            blocks.entry(starts.named(e.number)).or_default().push(step);
         }
         for &number in fed.commits_at(event) {
-            blocks.entry(parents[&number]).or_default().push(Step::Child { number });
+            let start = starts.named(number);
+            blocks.entry(starts.parent(start)).or_default().push(Step::Child { start });
         }
     }
     blocks
@@ -108,9 +142,9 @@ fn own_step(event: usize, e: &Event, a: Answer) -> Option<Step> {
 }
 
 impl Run {
-    fn block(&mut self, n: u64) {
+    fn block(&mut self, action: Start) {
         self.under_way.push(Own { cards: [None; ACCOUNTS], sums: [0; CHARGE_ACCOUNTS] });
-        for step in self.blocks.remove(&n).unwrap_or_default() {
+        for step in self.blocks.remove(&action).unwrap_or_default() {
             match step {
                 Step::Read { event, account } => {
                     let given = Given { card: self.card(account), amount: self.amount(account) };
@@ -118,7 +152,7 @@ impl Run {
                 }
                 Step::Write { account, card } => self.own().cards[account] = Some(card),
                 Step::Add { charge, amount } => self.own().sums[charge] += i128::from(amount),
-                Step::Child { number } => self.block(number),
+                Step::Child { start } => self.block(start),
             }
         }
         self.end();
@@ -176,24 +210,23 @@ fn settle(base: &mut [u8], own: &Own) {
 /// All that actions in R have added to each charge account (docs/RULES.md, 6.7). It takes R by its words (6.3), and not
 /// by blocks.
 pub fn added_in_r(fed: Fed) -> [i128; CHARGE_ACCOUNTS] {
-    let (mut parents, mut committed) = (HashMap::new(), HashMap::new());
+    let (mut starts, mut committed, mut adds) = (Starts::default(), HashSet::new(), Vec::new());
     for (event, (e, a)) in fed.told().enumerate() {
-        if let Answer::Started(n) = a {
-            parents.insert(n, e.number);
+        starts.note(e, a);
+        if a == Answer::Added {
+            adds.push((starts.named(e.number), e));
         }
-        committed.extend(fed.commits_at(event).iter().map(|n| (*n, parents[n])));
+        committed.extend(fed.commits_at(event).iter().map(|&number| starts.named(number)));
     }
-    let is_in_r = |mut n: u64| {
-        while let Some(&parent) = committed.get(&n) {
-            n = parent;
+    let is_in_r = |mut action: Start| {
+        while committed.contains(&action) {
+            action = starts.parent(action);
         }
-        n == STORE
+        action == NO_START
     };
     let mut added = [0; CHARGE_ACCOUNTS];
-    for (e, a) in fed.told() {
-        if a == Answer::Added && is_in_r(e.number) {
-            added[e.account as usize - FIRST_CHARGE] += i128::from(amount_in(&e.card));
-        }
+    for (_, e) in adds.into_iter().filter(|(action, _)| is_in_r(*action)) {
+        added[e.account as usize - FIRST_CHARGE] += i128::from(amount_in(&e.card));
     }
     added
 }

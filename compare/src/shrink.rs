@@ -1,7 +1,8 @@
 //! The smallest list that still shows a difference: parts are taken out, large ones first, while it stays.
 
+use crate::action::Place;
 use crate::header::{EVENT_ADD, SHADOW_BYTES};
-use crate::model::{amount_in, Answer, Event, Ledger, AMOUNT_BYTES};
+use crate::model::{amount_in, Answer, Event, Ledger, AMOUNT_BYTES, STORE};
 use std::collections::HashMap;
 
 fn smallest<T: Clone>(
@@ -35,20 +36,25 @@ pub fn smallest_list(events: &[Event], base: &[u8], differs: impl Fn(&[Event]) -
     smallest(events, |all, from, to| without(all, base, from, to), differs)
 }
 
-/// The other events, with the numbers that their actions get when the starts among those taken out are gone.
+/// The other events, with the numbers that their actions get when those taken out are gone: the whole list and the
+/// shorter one are run side by side, and an action is the same in both by its start. Where it has no number in the
+/// shorter list, the event keeps the one that it has.
 fn without(events: &[Event], base: &[u8], from: usize, to: usize) -> Vec<Event> {
-    let mut ledger = Ledger::new(base.to_vec(), vec![0; SHADOW_BYTES]);
-    let mut numbers: HashMap<u64, u64> = HashMap::new();
-    let mut kept = Vec::new();
+    let new = || Ledger::new(base.to_vec(), vec![0; SHADOW_BYTES]);
+    let (mut whole, mut shorter, mut kept) = (new(), new(), Vec::new());
+    let mut numbers: HashMap<Place, u64> = HashMap::new();
     for (i, e) in events.iter().enumerate() {
-        let answer = ledger.event(e);
+        let named = (e.number != STORE && e.number <= whole.table.highest).then(|| whole.table.holder(e.number));
+        let answer = whole.sound_event(e);
         if (from..to).contains(&i) {
             continue;
         }
-        kept.push(Event { number: numbers.get(&e.number).copied().unwrap_or(e.number), ..e.clone() });
-        if let Answer::Started(n) = answer {
-            numbers.insert(n, numbers.len() as u64 + 1);
+        let number = named.and_then(|place| numbers.get(&place).copied()).unwrap_or(e.number);
+        let renumbered = Event { number, ..e.clone() };
+        if let (Answer::Started(n), Answer::Started(m)) = (answer, shorter.sound_event(&renumbered)) {
+            numbers.insert(whole.table.holder(n), m);
         }
+        kept.push(renumbered);
     }
     kept
 }

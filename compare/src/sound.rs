@@ -1,17 +1,19 @@
 //! Whether a table is sound (docs/RULES.md, 7), and which clauses one breaks that is not.
 
+use crate::action::{Action, Parent, State};
 use crate::header::ACTIONS;
-use crate::model::{Action, State, Table, CHARGE_ACCOUNTS, STORE};
+use crate::model::{CHARGE_ACCOUNTS, MOST_COUNTED, STORE};
+use crate::table::Table;
 use crate::times::{EndTime, Kind, Times, KINDS};
 use std::collections::BTreeSet;
 
 /// Why a table is not sound. Where there are two kinds of it, the kind is that of the counter, the time or the queue.
 #[derive(Clone, Copy, PartialEq, Eq, PartialOrd, Ord, Debug)]
 pub enum Unsound {
-    Started,
+    Highest,
     Counter(Kind),
     State,
-    ParentNotBelow,
+    ParentUnknown,
     ParentNotLive,
     /// Of an action of the same kind.
     ReadTime(Kind),
@@ -27,11 +29,13 @@ pub enum Unsound {
     QueuedOfOther(Kind),
     QueuedChildLive(Kind),
     QueuedTwice(Kind),
+    /// Parents that do not lead to the store.
+    Ring,
 }
 
-/// What the counters and the times are held to.
+/// What the counters and the times are held to: for each kind how many wait, and the counters.
 struct Bounds {
-    committed: [u64; KINDS.len()],
+    waiting: [u64; KINDS.len()],
     counters: Times,
 }
 
@@ -52,67 +56,71 @@ impl Table {
         self.faults().is_empty()
     }
 
-    /// The clauses that it breaks. Nothing more is asked of a table with too many starts, of a queue that is too long,
-    /// and of an entry that names nobody.
+    /// The clauses that it breaks. Nothing more is asked of a table whose highest number is too high, of a queue that
+    /// is too long, and of an entry that names nobody.
     pub fn faults(&self) -> BTreeSet<Unsound> {
-        self.faults_within(|committed| Bounds { committed, counters: self.counters })
+        let waiting = KINDS.map(|kind| self.queue(kind).length);
+        self.faults_within(Bounds { waiting, counters: self.counters })
     }
 
-    /// Whether it would be sound to somebody who doesn't part the kinds: with each counter at most the number of all
-    /// that have committed, and each time at most the higher counter.
+    /// Whether it would be sound to somebody who doesn't part the kinds: with each counter held to the queue of the
+    /// other kind, and each time to the higher counter.
     pub fn is_sound_in_mixed_times(&self) -> bool {
         let highest = self.counters.number(Kind::Top).max(self.counters.number(Kind::Sub));
-        let counters = Times::new(highest, highest);
-        self.faults_within(|committed| Bounds { committed: [committed.iter().sum(); KINDS.len()], counters }).is_empty()
+        let waiting = KINDS.map(|kind| self.queue(kind.other()).length);
+        self.faults_within(Bounds { waiting, counters: Times::new(highest, highest) }).is_empty()
     }
 
-    /// The bounds are told from how many of each kind have committed.
-    fn faults_within(&self, bounds: impl Fn([u64; KINDS.len()]) -> Bounds) -> BTreeSet<Unsound> {
+    fn faults_within(&self, bounds: Bounds) -> BTreeSet<Unsound> {
         let mut faults = Faults::default();
-        faults.note(self.started > ACTIONS as u64, Unsound::Started);
-        if self.started <= ACTIONS as u64 {
-            let bounds = bounds(self.committed());
-            for (i, a) in self.begun().iter().enumerate() {
-                self.action_faults(i, a, &bounds, &mut faults);
+        faults.note(self.highest > ACTIONS as u64, Unsound::Highest);
+        if self.highest <= ACTIONS as u64 {
+            for a in self.held() {
+                self.action_faults(a, &mut faults);
+                self.time_faults(a, &bounds, &mut faults);
             }
             for kind in KINDS {
-                faults.note(self.counters.number(kind) > bounds.committed[kind as usize], Unsound::Counter(kind));
+                let counted = self.counters.number(kind).checked_add(bounds.waiting[kind as usize]);
+                faults.note(counted.is_none_or(|counted| counted > MOST_COUNTED), Unsound::Counter(kind));
                 self.queue_faults(kind, &mut faults);
             }
         }
         faults.0
     }
 
-    /// How many of each kind have committed.
-    fn committed(&self) -> [u64; KINDS.len()] {
-        let mut counts = [0; KINDS.len()];
-        for a in self.begun().iter().filter(|a| a.state == State::Committed) {
-            counts[a.kind() as usize] += 1;
+    fn action_faults(&self, a: &Action, faults: &mut Faults) {
+        faults.note(matches!(a.state, State::Unknown(_)), Unsound::State);
+        faults.note(matches!(a.parent, Parent::Unknown(_)), Unsound::ParentUnknown);
+        if a.is_live() {
+            let may_live = match a.parent {
+                Parent::Action(place) => self.at(place).is_live(),
+                Parent::Store | Parent::Nobody | Parent::Unknown(_) => true,
+            };
+            faults.note(!may_live, Unsound::ParentNotLive);
+            faults.note(!self.climbs(a, ACTIONS), Unsound::Ring);
         }
-        counts
+        faults.note((0..CHARGE_ACCOUNTS).any(|c| a.pending[c] != 0 && !a.has_charged(c)), Unsound::Pending);
     }
 
-    fn action_faults(&self, i: usize, a: &Action, bounds: &Bounds, faults: &mut Faults) {
-        let is_below = a.parent <= i as u64;
-        faults.note(matches!(a.state, State::Unknown(_)), Unsound::State);
-        faults.note(!is_below, Unsound::ParentNotBelow);
-        if a.state == State::Live {
-            let may_live = |parent| parent == STORE || self.action(parent).state == State::Live;
-            faults.note(is_below && !may_live(a.parent), Unsound::ParentNotLive);
-            let own = a.kind();
+    fn time_faults(&self, a: &Action, bounds: &Bounds, faults: &mut Faults) {
+        let own = a.kind();
+        if a.is_live() {
             for times in a.reads.iter().filter_map(|read| read.times()) {
                 faults.note(times.is_above(bounds.counters, own), Unsound::ReadTime(own));
                 faults.note(times.is_above(bounds.counters, own.other()), Unsound::ReadTimeOfOther(own.other()));
             }
         }
         if a.is_writer() {
-            // Of one parent, and so of one kind: there the numbers tell.
-            let twin = |b: &Action| b.end.number() == a.end.number() && b.parent == a.parent && b.is_writer();
-            faults.note(a.end == EndTime::new(a.kind(), 0), Unsound::NoEndTime(a.kind()));
-            faults.note(a.end.is_above(bounds.counters), Unsound::EndTime(a.kind()));
-            faults.note(self.actions[..i].iter().any(twin), Unsound::EndTimeTwice);
+            faults.note(a.end == EndTime::new(own, 0), Unsound::NoEndTime(own));
+            faults.note(a.end.is_above(bounds.counters), Unsound::EndTime(own));
+            let mut before = self.held().take(a.number as usize - 1);
+            faults.note(before.any(|b| self.are_twins(a, b)), Unsound::EndTimeTwice);
         }
-        faults.note((0..CHARGE_ACCOUNTS).any(|c| a.pending[c] != 0 && !a.has_charged(c)), Unsound::Pending);
+    }
+
+    /// Whether they are two records of one parent, and so of one kind, that end at the same time.
+    fn are_twins(&self, a: &Action, b: &Action) -> bool {
+        a.end.number() == b.end.number() && a.parent == b.parent && b.is_writer() && !self.is_orphan(a)
     }
 
     fn queue_faults(&self, kind: Kind, faults: &mut Faults) {
@@ -123,11 +131,11 @@ impl Table {
         let numbers: Vec<u64> = queue.waiting().iter().map(|w| w.number).collect();
         for (i, &n) in numbers.iter().enumerate() {
             faults.note(numbers[..i].contains(&n), Unsound::QueuedTwice(kind));
-            if n == STORE || n > self.started {
+            if n == STORE || n > self.highest {
                 faults.note(true, Unsound::QueuedNobody(kind));
                 continue;
             }
-            faults.note(self.action(n).state != State::Live, Unsound::QueuedNotLive(kind));
+            faults.note(!self.action(n).is_live(), Unsound::QueuedNotLive(kind));
             faults.note(self.action(n).kind() != kind, Unsound::QueuedOfOther(kind));
             faults.note(self.has_live_child(n), Unsound::QueuedChildLive(kind));
         }

@@ -14,7 +14,7 @@ pub enum Kind {
 pub const KINDS: [Kind; 2] = [Kind::Top, Kind::Sub];
 
 impl Kind {
-    /// The kind of all children of an action or of the store.
+    /// The kind of all children of an action or of the store, by its number.
     pub fn under(parent: u64) -> Kind {
         if parent == STORE {
             Kind::Top

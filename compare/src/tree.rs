@@ -1,13 +1,12 @@
-//! The tree of a table by the second engine (docs/RULES.md, 12): totals by recursion over lists of children, and the
-//! report as structs and as text.
+//! The tree of a table by the second engine (docs/RULES.md, 12): the report as structs and as text.
 
+use crate::action::{Parent, Place, State};
 use crate::cause;
 use crate::header::{ACCOUNTS, BASE_BYTES};
-use crate::model::{amount_in, as_amount, base_card, Ledger, State, Table, CHARGE_ACCOUNTS, FIRST_CHARGE, STORE};
+use crate::model::{amount_in, as_amount, base_card, Figures, Ledger, CHARGE_ACCOUNTS, FIRST_CHARGE, NO_FIGURES};
+use crate::table::Table;
 use std::fmt;
 
-/// A figure for each charge account.
-pub type Figures = [i64; CHARGE_ACCOUNTS];
 /// Exact sums, of which it is not known whether they are amounts.
 type Sums = [i128; CHARGE_ACCOUNTS];
 
@@ -33,61 +32,39 @@ pub struct Tree {
     pub block: Vec<Balance>,
 }
 
-fn grow(sums: &mut Sums, by: &Figures) {
-    for (sum, &figure) in sums.iter_mut().zip(by) {
-        *sum += i128::from(figure);
-    }
-}
-
 /// The sums as figures, where each is an amount.
 fn figures(sums: Sums) -> Result<Figures, u64> {
-    let mut out = [0; CHARGE_ACCOUNTS];
+    let mut out = NO_FIGURES;
     for (figure, sum) in out.iter_mut().zip(sums) {
         *figure = as_amount(sum)?;
     }
     Ok(out)
 }
 
-/// The children of the store and of each action, by number.
-fn children(table: &Table) -> Vec<Vec<u64>> {
-    let begun = table.begun();
-    let mut lists = vec![Vec::new(); begun.len() + 1];
-    for (i, a) in begun.iter().enumerate() {
-        lists[a.parent as usize].push(i as u64 + 1);
-    }
-    lists
-}
-
-/// A sound table on the way down, and the lines met so far.
-struct Walk<'a> {
-    table: &'a Table,
-    children: Vec<Vec<u64>>,
-    lines: Vec<Line>,
-}
-
-impl Walk<'_> {
-    /// Puts the lines under an action or the store, and adds up the totals of its committed children.
-    fn under(&mut self, n: u64, depth: u64) -> Result<Sums, u64> {
-        let mut sums = [0; CHARGE_ACCOUNTS];
-        for child in std::mem::take(&mut self.children[n as usize]) {
-            let total = self.line(child, depth)?;
-            if self.table.action(child).state == State::Committed {
-                grow(&mut sums, &total);
+impl Table {
+    /// An action's own adds and the totals of all children of it that ever committed, each from its children in turn.
+    /// It asks no kept sum, and is right for tables that a list led to.
+    pub fn total_of_all(&self, place: Place) -> Sums {
+        let mut total = self.at(place).own_adds.map(i128::from);
+        for (at, a) in self.ever().iter().enumerate() {
+            if a.parent == Parent::Action(place) && a.state == State::Committed {
+                for (sum, child) in total.iter_mut().zip(self.total_of_all(Place(at))) {
+                    *sum += child;
+                }
             }
         }
-        Ok(sums)
+        total
     }
 
-    /// Puts an action's line and the lines under it. Its total is known only after them.
-    fn line(&mut self, number: u64, depth: u64) -> Result<Figures, u64> {
-        let (state, own_adds) = (self.table.action(number).state, self.table.action(number).own_adds);
-        let at = self.lines.len();
-        self.lines.push(Line { depth, number, state, own_adds, total: own_adds });
-        let mut sums = self.under(number, depth + 1)?;
-        grow(&mut sums, &own_adds);
-        let total = figures(sums)?;
-        self.lines[at].total = total;
-        Ok(total)
+    /// Puts the lines under an action or the store. Only those who are held have one, so who lies below somebody that
+    /// was dropped isn't met.
+    fn lines_under(&self, parent: Parent, depth: u64, lines: &mut Vec<Line>) -> Result<(), u64> {
+        for a in self.held().filter(|a| a.parent == parent) {
+            let (number, state, own_adds) = (a.number, a.state, a.own_adds);
+            lines.push(Line { depth, number, state, own_adds, total: figures(a.total())? });
+            self.lines_under(self.parent_named(number), depth + 1, lines)?;
+        }
+        Ok(())
     }
 }
 
@@ -100,14 +77,14 @@ impl Ledger {
         if let Some(cause) = self.stores_cause() {
             return Err(cause);
         }
-        let mut walk = Walk { table: &self.table, children: children(&self.table), lines: Vec::new() };
-        let sums = figures(walk.under(STORE, 0)?)?;
+        let mut lines = Vec::new();
+        self.table.lines_under(Parent::Store, 0, &mut lines)?;
         let balance = |(account, sum): (usize, i64)| {
             let amount = |store: &[u8]| amount_in(&store[base_card(account)]);
             Balance { account: account as u64, opening: amount(opening), sum, closing: amount(&self.base) }
         };
-        let block = (FIRST_CHARGE..ACCOUNTS).zip(sums).map(balance).collect();
-        Ok(Tree { lines: walk.lines, block })
+        let block = (FIRST_CHARGE..ACCOUNTS).zip(self.table.kept).map(balance).collect();
+        Ok(Tree { lines, block })
     }
 }
 

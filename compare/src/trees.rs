@@ -1,13 +1,17 @@
 //! Reports of trees on both engines: of anything that is lent, and of a table that a list left.
 
+use crate::action::{Action, Parent, Place, State};
 use crate::cause;
 use crate::coverage::Coverage;
 use crate::header::{BASE_BYTES, BLOCK_AT, BLOCK_WORDS, LINE_WORDS, REPORT_WORDS, ROW_WORDS, SHADOW_BYTES};
-use crate::library::{decode, encode_tree, Lent, LINE_FIGURES, LINE_NUMBER, PENDING};
-use crate::model::{Ledger, CHARGE_ACCOUNTS};
+use crate::library::{decode, encode_tree, state_said, Lent, KEPT, OWN_ADDS, PENDING};
+use crate::library::{LINE_FIGURES, LINE_NUMBER, LINE_STATE};
+use crate::model::{Ledger, CHARGE_ACCOUNTS, FIRST_CHARGE};
 use crate::random::Random;
 use crate::same::{same, same_bytes, same_lent, same_report, Compared};
+use crate::table::Table;
 use crate::tree::Tree;
+use std::fmt;
 
 /// The seed of the words that a report holds before the call.
 const SEED: u64 = 12;
@@ -28,6 +32,34 @@ impl Report {
         let mut own_adds = lines.flat_map(|line| line[LINE_FIGURES..].iter().step_by(2));
         own_adds.any(|&own| (own as i64).unsigned_abs() > FAR)
     }
+}
+
+/// As scripts say a tree: figures that are not 0 alone. A refusal by its cause.
+impl fmt::Display for Report {
+    fn fmt(&self, f: &mut fmt::Formatter) -> fmt::Result {
+        if self.cause != cause::NONE {
+            return write!(f, "refused {}", self.cause);
+        }
+        let lines = self.words.chunks(LINE_WORDS).take(self.lines as usize).map(line_said);
+        let block = self.words[BLOCK_AT..].chunks(BLOCK_WORDS).filter_map(balance_said);
+        f.write_str(&lines.chain(block).collect::<Vec<_>>().join(", "))
+    }
+}
+
+fn line_said(line: &[u64]) -> String {
+    let mut text = format!("{} {} {}", line[0], line[LINE_NUMBER], state_said(line[LINE_STATE]));
+    for (c, figures) in line[LINE_FIGURES..].chunks(2).enumerate() {
+        if figures != [0, 0] {
+            text += &format!(" {} {} {}", FIRST_CHARGE + c, figures[0] as i64, figures[1] as i64);
+        }
+    }
+    text
+}
+
+/// None where all figures of the account are 0.
+fn balance_said(line: &[u64]) -> Option<String> {
+    let figures: Vec<String> = line.iter().map(|&word| (word as i64).to_string()).collect();
+    line[1..].iter().any(|&word| word != 0).then(|| format!("account {}", figures.join(" ")))
 }
 
 /// Any words, and the same ones each time.
@@ -71,15 +103,20 @@ pub fn tree(lent: &Lent, opening: &[u8], seen: &mut Coverage) -> Result<Report, 
     Ok(Report { cause, lines, words })
 }
 
-/// The tree of a table that a list left, and the claims of docs/RULES.md, 12.7, on the library's own words.
-pub fn tree_of_list(lent: &Lent, opening: &[u8], seen: &mut Coverage) -> Compared {
+/// The tree of a table that a list left, and the claims of docs/RULES.md, 12.7, on the library's own words. The second
+/// engine's table knows all the children that an action ever had.
+pub fn tree_of_list(lent: &Lent, table: &Table, opening: &[u8], seen: &mut Coverage) -> Compared {
     let report = tree(lent, opening, seen)?;
     if report.cause != cause::NONE {
         return Err(format!("the tree of a list is refused {} by both engines", report.cause));
     }
-    for line in report.words.chunks(LINE_WORDS).take(report.lines as usize) {
-        totals_are_pending(line, &lent.table, seen)?;
+    for row in lent.table.chunks(ROW_WORDS).skip(1).take(table.highest as usize) {
+        own_and_kept_are_pending(row)?;
     }
+    for line in report.words.chunks(LINE_WORDS).take(report.lines as usize) {
+        totals_of_all_children(line, table, seen)?;
+    }
+    seen.numbers.held_unshown += table.highest - report.lines;
     for line in report.words[BLOCK_AT..].chunks(BLOCK_WORDS) {
         let [account, opening, sum, closing] = line.try_into().expect("a line of the last block");
         let exact = |word: u64| i128::from(word as i64);
@@ -91,18 +128,28 @@ pub fn tree_of_list(lent: &Lent, opening: &[u8], seen: &mut Coverage) -> Compare
     Ok(())
 }
 
-fn totals_are_pending(line: &[u64], table: &[u64], seen: &mut Coverage) -> Compared {
-    let number = line[LINE_NUMBER];
-    let pending = &table[ROW_WORDS * number as usize + PENDING..][..CHARGE_ACCOUNTS];
-    for (figures, pending) in line[LINE_FIGURES..].chunks(2).zip(pending) {
-        let [own, total] = figures.try_into().expect("own adds and total");
-        if total != *pending {
-            return Err(format!(
-                "action {number}: a total of {} in both engines, and {} pending",
-                total as i64, *pending as i64
-            ));
+/// Of each held action own adds and kept sum together are the pending sum.
+fn own_and_kept_are_pending(row: &[u64]) -> Compared {
+    for c in 0..CHARGE_ACCOUNTS {
+        let [own, kept, pending] = [OWN_ADDS, KEPT, PENDING].map(|at| i128::from(row[at + c] as i64));
+        if own + kept != pending {
+            return Err(format!("own adds {own} and kept sum {kept} in both engines, and {pending} pending"));
         }
-        seen.totals_not_own += u64::from(total != own);
     }
+    Ok(())
+}
+
+/// A line's totals are those of the action's own adds and of all children of it that ever committed.
+fn totals_of_all_children(line: &[u64], table: &Table, seen: &mut Coverage) -> Compared {
+    let place = table.holder(line[LINE_NUMBER]);
+    let totals = table.total_of_all(place);
+    for (figures, total) in line[LINE_FIGURES..].chunks(2).zip(totals) {
+        same("a total of all children", i128::from(figures[1] as i64), total)?;
+        seen.totals_not_own += u64::from(figures[0] != figures[1]);
+    }
+    let is_dropped = |(at, a): (usize, &Action)| {
+        a.parent == Parent::Action(place) && a.state == State::Committed && !table.is_held(Place(at)) && a.adds_up()
+    };
+    seen.numbers.lines_with_dropped += u64::from(table.ever().iter().enumerate().any(is_dropped));
     Ok(())
 }
