@@ -4,10 +4,10 @@ use native.Mathlib.Omega.{arith}
 use native.Mathlib.Decide.{ℕ-discrete}
 use mathlib.Core.Path.{_≡_, refl, sym, _∙_}
 use mathlib.Core.Logic.{_⊎_, inl, inr, ⊎-elim, ⊎-map, _≢_}
-use mathlib.Core.Bool.{Bool, true, false, not, cond, false≢true}
+use mathlib.Core.Bool.{Bool, true, false, not, cond, _&&_, false≢true}
 use mathlib.Core.List.{List}
 use lib.Dec.{ltb, eqb}
-use borrow.Author.Tests.{ltb-true, ltb-false, lt-ltb, eqb-true, eqb-false, not-true}
+use borrow.Author.Tests.{ltb-true, ltb-false, lt-ltb, le-ltb, eqb-true, eqb-false, not-true}
 use Rattle.rules.specs.Range.{upFrom}
 use Rattle.rules.specs.Card.{accountCount, accounts}
 use Rattle.rules.specs.Kind.{kindUnder}
@@ -15,8 +15,8 @@ use Rattle.rules.specs.Table.{mostActions, highest, parentOf, kindOf, en
 use Rattle.rules.specs.Walk.{isUnder}
 use Rattle.rules.specs.Free.{hasReadBefore, needs, isStoreOrLive, isNeeded, isFree, firstFree, freshNumber, nextNumber}
 use Rattle.rules.specs.Sound.{IsGiven}
-use Rattle.rules.proofs.Laws.Tests.{and-left, and-right, and-both, test}
-use Rattle.rules.proofs.Laws.Ranges.{Within, any-at}
+use Rattle.rules.proofs.Laws.Tests.{and-left, and-right, and-both, cond-same, test}
+use Rattle.rules.proofs.Laws.Ranges.{Within, any-at, not-any}
 
 -- ---- needed
 
@@ -25,6 +25,23 @@ all-hold : {a b c : Bool} → a ≡ true → b ≡ true → c ≡ true → cond 
 all-hold p q r = rw (p, q, r)
 
 module _ (w : List ℕ) where
+  none-before :
+      (h t x : ℕ) → ((k : ℕ) → k < accountCount → hasRead w x k ≡ true → t ≤ readTime w h x k) →
+      hasReadBefore w h t x ≡ false
+  unfolding hasReadBefore accounts
+  none-before h t x later = not-any _ 0 accountCount (λ k r. by-read k (omega (arith, r)) (hasRead w x k) refl)
+    where
+      by-read : (k : ℕ) → k < accountCount → (b : Bool) → hasRead w x k ≡ b → (b && ltb (readTime w h x k) t) ≡ false
+      by-read k account true has = le-ltb _ _ (later k account has)
+      by-read k account false unread = refl
+
+  -- an action whose reads are all of the time at which a record ended, or later, doesn't need the record
+  pub later-reads-need-nothing :
+      (m x : ℕ) → ((k : ℕ) → k < accountCount → hasRead w x k ≡ true → endTime w m ≤ readTime w (kindOf w m) x k) →
+      needs w m x ≡ false
+  unfolding needs
+  later-reads-need-nothing m x later = rw (none-before (kindOf w m) (endTime w m) x later) (cond-same (isLive w x) false)
+
   read-before :
       (h t x k : ℕ) → k < accountCount → hasRead w x k ≡ true → readTime w h x k < t → hasReadBefore w h t x ≡ true
   unfolding hasReadBefore accounts
