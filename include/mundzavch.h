@@ -77,9 +77,9 @@ extern "C" {
 /* Sizes. compare/build.rs reads these lines, and the values of the two enums below: plain numbers, one to a line. */
 #define MUNDZAVCH_ACTIONS 64          /* that have a number at a time: 1 to 64 */
 #define MUNDZAVCH_ACCOUNTS 32         /* numbered from 0 */
-#define MUNDZAVCH_ROW_WORDS 129       /* uint64_t words in a row of a table: a head, then a row for each number, with
+#define MUNDZAVCH_ROW_WORDS 161       /* uint64_t words in a row of a table: a head, then a row for each number, with
                                          as many places of each queue */
-#define MUNDZAVCH_TABLE_WORDS 8385    /* uint64_t words in a table */
+#define MUNDZAVCH_TABLE_WORDS 10465   /* uint64_t words in a table */
 #define MUNDZAVCH_CARD_BYTES 32
 #define MUNDZAVCH_BASE_BYTES 1024     /* byte 32 k is the first of account k's card */
 #define MUNDZAVCH_SHADOW_BYTES 65536  /* byte 1024 (n - 1) + 32 k is the first of action n's card for account k */

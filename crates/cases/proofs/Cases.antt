@@ -1,30 +1,33 @@
--- The worked cases, moments of a commit, a serial run and an R worked through, and trees, proved by computing each over a table
--- and stores of full size. Assumes nothing.
-use mathlib.Core.Path.{_≡_, refl, sym, ap, ap₂, _∙_}
+-- The worked cases, moments of a commit, newest end times, a serial run and an R worked through, and trees, proved by computing
+-- each over a table and stores of full size. Assumes nothing.
+use mathlib.Core.Path.{_≡_, refl, sym, ap, ap₂, _∙_, fun-ext}
 use mathlib.Core.List.{List, _++_, map, flatMap, map-append}
 use Rattle.rules.specs.Range.{upFrom, downTo, any, all, count, filter, fold}
 use Rattle.rules.specs.Card.{accounts, chargeAccounts, cardAt, withCard}
 use Rattle.rules.specs.Amount.{amountOf, amountWord, isAmount, isAddable, lowFirst, bytesLowFirst, amountIn, withAmount, baseAmount}
 use Rattle.rules.specs.Kind.{kinds, kindUnder}
-use Rattle.rules.specs.Table.{word, withWord, withFields, withoutAdds, withoutKept, newTable, hasWrites, withReads, withBothSets, withSets, actions, hasLiveChild, isRecordOf, records}
+use Rattle.rules.specs.Table.{word, withWord, withFields, withoutAdds, withoutKept, withoutNewest, newTable, hasWrites, withReads, withBothSets, withSets, actions, parents, hasLiveChild, isRecordOf, records}
 use Rattle.rules.specs.Walk.{walkUp, climbs, isAtOrBelow, isUnder}
 use Rattle.rules.specs.Free.{hasReadBefore, needs, isNeeded, isFree, firstFree, freshNumber, nextNumber}
 use Rattle.rules.specs.Queue.{entryAt, withEntry, queue, isQueued, isQueuedFailed, isQueuedReady, isWaiting, isHeadReady, withEntries, withQueue, withTail, readied, withReady, keepsPlace, withoutBelow}
-use Rattle.rules.specs.Sound.{isBounded, hasTimesIn, hasReadInTime, hasEndAlone, hasPendingWritten, isSoundAction, mayWait, areDistinct, queueNumbers, isSoundQueue, sound, hasWayUp}
+use Rattle.rules.specs.Sound.{isBounded, hasTimesIn, hasReadInTime, hasEndAlone, hasPendingWritten, isSoundAction, mayWait, areDistinct, queueNumbers, isSoundQueue, isNewestInTime, isToldTrue, isNewestTrue, areNewestTrue, sound, hasWayUp}
+use Rattle.rules.specs.Stale.{isStale, isKnownClash}
 use Rattle.rules.specs.Verdict.{meets, isMetBy, isMetInQueue, verdictOf}
 use Rattle.rules.specs.Cause.{commitSum, isCommitOutside, isReadOutside, areOutside, storeCauses, earlyCauses, lateCauses, causesOf, causeOf}
 use Rattle.rules.specs.Nearest.{nearest, movesUp, readSum}
 use Rattle.rules.specs.Look.{lookCause, look}
 use Rattle.rules.specs.Clash.{pairsWith, clashesWith, clashes, least, firstClash}
 use Rattle.rules.specs.Held.{withHeldCard, withHeldSum}
-use Rattle.rules.specs.Commit.{copyOne, copiedDown, commitTime, commitCounter, keepTable, joinTable, committedUnder}
+use Rattle.rules.specs.Commit.{copyOne, copiedDown, commitTime, commitCounter, keepTable, noteTable, joinTable, committedUnder}
 use Rattle.rules.specs.Event.{Event}
 use Rattle.rules.specs.Ledger.{Ledger}
 use Rattle.rules.specs.Step.{orphaned, giveTable, start, readAnswer, read, readTable, write, writeTable, add, addTable, commit, judged, finished, leaveWhile, leave, leaveBoth, enterTable, enter, revealed, judgeLeft, judge, outOfBoth, dropped, abortLeft, abort, abortTable, act, step, actLeavers, leaversAt}
 use Rattle.rules.specs.Run.{Ran, run}
 use Rattle.rules.specs.Tree.{children, linesWithin, treeLines, isShown, figuresOf, isFigureOutside, treeCauses, treeCause}
-use Rattle.cases.specs.Case.{resultOf, Case, Hold, casesTo14, casesTo25, casesTo30, casesTo37, casesTo43, cases}
+use Rattle.cases.specs.Case.{opening, resultIn, resultOf, Case, Hold, casesTo14, casesTo25, casesTo30, casesTo37, casesTo43, cases}
+use Rattle.cases.proofs.ProperRuns.{laterCause, properStep, properLeavers, properRun, opened-run}
 use Rattle.cases.specs.Moments.{moments, watched, momentsExpected}
+use Rattle.cases.specs.Newests.{NewestCase, newestsIn, newestsAfter, newestCases, newestsExpected}
 use Rattle.rules.specs.Serial.Effect.{lay, cardOver, sumOver}
 use Rattle.rules.specs.Serial.Told.{toldAll}
 use Rattle.rules.specs.Serial.Collect.{put, commitsAt, laidAll, stepped, collectOne, collectFrom, unknown, storeBlock}
@@ -37,29 +40,41 @@ use Rattle.cases.specs.Trees.{treeAfter, treeEvents, treesExpected}
 
 -- Named on an `unfolding` line, this lets all that a list of events takes compute.
 computing : Ledger → List Event → Ran
-unfolding upFrom downTo any all count filter fold accounts chargeAccounts cardAt withCard amountOf amountWord isAmount isAddable lowFirst bytesLowFirst amountIn withAmount baseAmount kinds kindUnder word withWord withFields withoutAdds withoutKept newTable hasWrites withReads withBothSets withSets actions hasLiveChild isRecordOf records walkUp isAtOrBelow climbs isUnder hasReadBefore needs isNeeded isFree firstFree freshNumber nextNumber entryAt withEntry queue isQueued isQueuedFailed isQueuedReady isWaiting isHeadReady withEntries withQueue withTail readied withReady keepsPlace withoutBelow isBounded hasWayUp hasTimesIn hasReadInTime hasEndAlone hasPendingWritten isSoundAction mayWait areDistinct queueNumbers isSoundQueue sound meets isMetBy isMetInQueue verdictOf commitSum isCommitOutside isReadOutside areOutside storeCauses earlyCauses lateCauses causesOf causeOf nearest movesUp readSum pairsWith clashesWith clashes least firstClash start orphaned giveTable readAnswer read readTable write writeTable add addTable commit commitTime commitCounter withHeldCard withHeldSum copyOne copiedDown keepTable joinTable committedUnder judged finished leaveWhile leave leaveBoth enterTable enter revealed judgeLeft judge outOfBoth dropped abortLeft abort abortTable act step run
+unfolding upFrom downTo any all count filter fold accounts chargeAccounts cardAt withCard amountOf amountWord isAmount isAddable lowFirst bytesLowFirst amountIn withAmount baseAmount kinds kindUnder word withWord withFields withoutAdds withoutKept withoutNewest newTable hasWrites withReads withBothSets withSets actions parents hasLiveChild isRecordOf records walkUp isAtOrBelow climbs isUnder hasReadBefore needs isNeeded isFree firstFree freshNumber nextNumber entryAt withEntry queue isQueued isQueuedFailed isQueuedReady isWaiting isHeadReady withEntries withQueue withTail readied withReady keepsPlace withoutBelow isBounded hasWayUp hasTimesIn hasReadInTime hasEndAlone hasPendingWritten isSoundAction mayWait areDistinct queueNumbers isSoundQueue isStale isNewestInTime isToldTrue isNewestTrue areNewestTrue sound meets isMetBy isMetInQueue verdictOf commitSum isCommitOutside isReadOutside areOutside storeCauses earlyCauses lateCauses causesOf causeOf nearest movesUp readSum pairsWith clashesWith clashes least firstClash start orphaned giveTable readAnswer read readTable write writeTable add addTable commit commitTime commitCounter withHeldCard withHeldSum copyOne copiedDown keepTable noteTable joinTable committedUnder judged finished leaveWhile leave leaveBoth enterTable enter revealed judgeLeft judge outOfBoth dropped abortLeft abort abortTable act step run
 computing = run
 
+-- The same for a list from a new table, where no table is tested.
+properly : Ledger → List Event → Ran
+unfolding computing laterCause properStep properLeavers properRun
+properly = properRun
+
 -- the cases of specs/Case.antt: part by part, and all of them
+hold-properly :
+    (cs : List Case) →
+    map (λ c. resultIn (c .question) (properRun opening (c .question .events))) cs ≡ map (λ c. c .expected) cs → Hold cs
+unfolding resultOf
+hold-properly cs computed =
+    ap (λ f. map f cs) (fun-ext (λ (c : Case). ap (resultIn (c .question)) (opened-run (c .question .events)))) ∙ computed
+
 to-14-hold : Hold casesTo14
-unfolding computing lookCause look resultOf casesTo14
-to-14-hold = refl
+unfolding properly lookCause look resultIn casesTo14
+to-14-hold = hold-properly casesTo14 refl
 
 to-25-hold : Hold casesTo25
-unfolding computing lookCause look resultOf casesTo25
-to-25-hold = refl
+unfolding properly lookCause look resultIn casesTo25
+to-25-hold = hold-properly casesTo25 refl
 
 to-30-hold : Hold casesTo30
-unfolding computing lookCause look resultOf casesTo30
-to-30-hold = refl
+unfolding properly lookCause look resultIn casesTo30
+to-30-hold = hold-properly casesTo30 refl
 
 to-37-hold : Hold casesTo37
-unfolding computing lookCause look resultOf casesTo37
-to-37-hold = refl
+unfolding properly lookCause look resultIn casesTo37
+to-37-hold = hold-properly casesTo37 refl
 
 to-43-hold : Hold casesTo43
-unfolding computing lookCause look resultOf casesTo43
-to-43-hold = refl
+unfolding properly lookCause look resultIn casesTo43
+to-43-hold = hold-properly casesTo43 refl
 
 both-hold : (some more : List Case) → Hold some → Hold more → Hold (some ++ more)
 both-hold some more h k = map-append _ some more ∙ ap₂ (λ x y. x ++ y) h k ∙ sym (map-append _ some more)
@@ -76,6 +91,16 @@ cases-hold =
 pub moments-hold : map moments watched ≡ momentsExpected
 unfolding computing moments
 moments-hold = refl
+
+-- the newest end times of specs/Newests.antt
+newests-computed : map (λ c. newestsIn c (properRun opening (c .events))) newestCases ≡ newestsExpected
+unfolding properly flatMap isKnownClash newestsIn newestCases newestsExpected
+newests-computed = refl
+
+pub newests-hold : map newestsAfter newestCases ≡ newestsExpected
+unfolding newestsAfter
+newests-hold =
+    ap (λ f. map f newestCases) (fun-ext (λ (c : NewestCase). ap (newestsIn c) (opened-run (c .events)))) ∙ newests-computed
 
 -- the example of specs/Example.antt: what the serial run is told, and what it gives then
 told-holds : exampleTold ≡ toldExpected

@@ -1,2 +1,3 @@
 -- All of them hold.
+pub mod ProperRuns
 pub mod Cases

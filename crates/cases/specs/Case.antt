@@ -14,7 +14,7 @@ use Rattle.rules.specs.Table.{newTable, highest, counter}
 use Rattle.rules.specs.Event.{Event, eventOf, startUnder, readBy, writeBy, commitOf, abortOf, addBy, enterOf, judgeOf}
 use Rattle.rules.specs.Look.{look, bytesOf}
 use Rattle.rules.specs.Ledger.{Ledger}
-use Rattle.rules.specs.Run.{run}
+use Rattle.rules.specs.Run.{Ran, run}
 
 -- a new table over stores of zeros
 abbrev pub opening : Ledger
@@ -59,9 +59,9 @@ pub record Result : Type 0 where
   pub baseCards : List (List ℕ)
   pub looks : List Shown
 
-unfoldable pub resultOf : Question → Result
-resultOf q =
-    let ran = run opening (q .events) in
+-- .. of what the events gave and left
+unfoldable pub resultIn : Question → Ran → Result
+resultIn q ran =
     record {
       answers = ran .answers;
       highest = highest (ran .after .table);
@@ -70,6 +70,9 @@ resultOf q =
       baseCards = map (λ k. cardAt (ran .after .base) (basePlace k)) (q .baseAccounts);
       looks = map (shown (ran .after)) (q .spots);
     }
+
+unfoldable pub resultOf : Question → Result
+resultOf q = resultIn q (run opening (q .events))
 
 pub record Case : Type 0 where
   pub question : Question

@@ -1,6 +1,7 @@
--- The worked cases, moments of a commit, a serial run and an R worked through, and trees.
+-- The worked cases, moments of a commit, newest end times, a serial run and an R worked through, and trees.
 pub mod Case
 pub mod Moments
+pub mod Newests
 pub mod Example
 pub mod InR
 pub mod Trees

@@ -2,3 +2,4 @@
 mod FittingSums
 mod Keeping
 mod NextTurn
+mod Noting

@@ -14,6 +14,7 @@ ghost use Rattle.commits.specs.Outside.{unlessOutside};
 use crate::copy::copy_down;
 use crate::end::end;
 use crate::kept::keep_totals;
+use crate::newest::note_ends;
 use crate::sums::is_outside;
 use rows::fields::parent;
 use rows::fields::set_state;
@@ -23,10 +24,10 @@ use rules::Found;
 use rules::cause::SUM;
 use rules::table::ABORTED;
 use rules::table::STORE;
-use validation::search::first_clash;
+use validation::verdict::clash_of;
 
-// A commit that passes: the copies, the end, the kept sums, and the sets for a parent that is an action. Back comes the end
-// time.
+// A commit that passes: the copies, the end, the kept sums, the newest end times, and the sets for a parent that is an action.
+// Back comes the end time.
 pub(crate) fn pass(table: &mut [u64], base: &mut [u8], shadow: &mut [u8], n: u64) -> u64
     requires { ⌜ Sound (now table) ⌝ }
     requires { ⌜ IsLiveAction (now table) n ⌝ }
@@ -41,6 +42,7 @@ pub(crate) fn pass(table: &mut [u64], base: &mut [u8], shadow: &mut [u8], n: u64
     copy_down(table, base, shadow, n, p);
     let time = end(table, n);
     keep_totals(table, n, p);
+    note_ends(table, n, p);
     if p != STORE {
         join_sets(table, n, p);
     }
@@ -57,7 +59,7 @@ pub fn commit(table: &mut [u64], base: &mut [u8], shadow: &mut [u8], n: u64) -> 
         (ledgerOf (now (table .entry)) (now (base .entry)) (now (shadow .entry)))
         (commit (ledgerOf (now (table .entry)) (now (base .entry)) (now (shadow .entry))) n) ⌝ }
 {
-    let found = first_clash(table, n);
+    let found = clash_of(table, n);
     match found {
         Found::Nothing => {
             if is_outside(table, base, n) {

@@ -5,5 +5,6 @@ mod end;
 pub mod finish;
 mod held;
 mod kept;
+mod newest;
 mod sums;
 mod turn;

@@ -71,6 +71,12 @@ fn print_numbers() {
     print_day(b"many-refused.day");
 }
 
+// Many siblings at once, with verdicts among them.
+fn print_families() {
+    print_day(b"wide-families.day");
+    print_day(b"busy-families.day");
+}
+
 // Actions that wait.
 fn print_queues() {
     print_day(b"queue.day");
@@ -97,6 +103,7 @@ fn main() {
     print_actions();
     print_charges();
     print_numbers();
+    print_families();
     print_queues();
     print_others();
 }

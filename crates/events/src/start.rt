@@ -2,7 +2,7 @@
 ghost use mathlib.Core.Path.{_≡_};
 ghost use mathlib.Core.Bool.{cond};
 ghost use Prim.Native.Nat.{max};
-ghost use Rattle.rules.specs.Table.{IsAction, isChildOf, withParent};
+ghost use Rattle.rules.specs.Table.{IsAction, isChildOf, withParent, withoutAdds, withoutKept, withoutNewest, withSets};
 ghost use Rattle.rules.specs.Free.{nextNumber};
 ghost use Rattle.rules.specs.Sound.{Sound};
 ghost use Rattle.rules.specs.Step.{orphaned, giveTable};
@@ -15,6 +15,7 @@ use rows::fields::set_highest;
 use rows::fields::set_parent;
 use rows::fields::set_state;
 use rows::sets::clear_kept;
+use rows::sets::clear_newest;
 use rows::sets::clear_own_adds;
 use rows::sets::clear_sets;
 use rows::times::clear_end;
@@ -51,6 +52,19 @@ fn larger(a: u64, b: u64) -> u64
     a
 }
 
+// What the row has for each account: nothing added, nothing kept or noted of children, nothing read or written.
+fn clear_accounts(table: &mut [u64], n: u64)
+    requires { ⌜ HasRow (now table) n ⌝ }
+    ensures { λ r. ⌜ now (table .exit)
+        ≡ withSets (withoutNewest (withoutKept (withoutAdds (now (table .entry)) n) n) n) n
+        (λ k. 0) (λ k. 0) (λ k. 0) (λ k. 0) ⌝ }
+{
+    clear_own_adds(table, n);
+    clear_kept(table, n);
+    clear_newest(table, n);
+    clear_sets(table, n);
+}
+
 // Every field of the new action's row is set, whatever stood there.
 fn give(table: &mut [u64], n: u64, p: u64)
     requires { ⌜ Scannable (now table) ⌝ }
@@ -63,9 +77,7 @@ fn give(table: &mut [u64], n: u64, p: u64)
     set_parent(table, n, p);
     set_state(table, n, LIVE);
     clear_end(table, n);
-    clear_own_adds(table, n);
-    clear_kept(table, n);
-    clear_sets(table, n);
+    clear_accounts(table, n);
 }
 
 // The number of the new action.

@@ -16,7 +16,7 @@ use rules::queue::FAILED;
 use rules::queue::FIRST_POSITION;
 use rules::queue::GOOD;
 use rules::store::ACCOUNTS;
-use validation::search::first_clash;
+use validation::verdict::clash_of;
 
 // Account k is in m's write set and in n's read set.
 fn is_met_at(table: &[u64], n: u64, m: u64, k: u64) -> bool
@@ -78,7 +78,7 @@ pub(crate) fn verdict(table: &[u64], h: u64, n: u64) -> u64
     requires { ⌜ IsLiveAction (now table) n ⌝ }
     ensures { λ r. ⌜ r ≡ verdictOf (now (table .entry)) h n ⌝ }
 {
-    match first_clash(table, n) {
+    match clash_of(table, n) {
         Found::Nothing => {
             if is_met_in_queue(table, h, n) {
                 FAILED

@@ -5,11 +5,10 @@ ghost use lib.Dec.{ltb};
 ghost use Rattle.rules.specs.Card.{IsAccount};
 ghost use Rattle.rules.specs.Range.{any};
 ghost use Rattle.rules.specs.Table.{kindOf, endTime, hasRead, readTime, actions};
-ghost use Rattle.rules.specs.Walk.{isUnder};
 ghost use Rattle.rules.specs.Free.{hasReadBefore, needs, isStoreOrLive, isNeeded};
-ghost use Rattle.rules.specs.Sound.{IsGiven, IsLiveAction, Sound};
+ghost use Rattle.rules.specs.Sound.{IsGiven, Sound};
 ghost use Rattle.rows.specs.Row.{HasRow};
-use ancestry::walk::is_at_or_below;
+use ancestry::under::is_under;
 use rows::fields::has_read;
 use rows::fields::highest;
 use rows::fields::is_live;
@@ -45,22 +44,6 @@ fn has_read_before(table: &[u64], m: u64, x: u64) -> bool
         }
     }
     false
-}
-
-// Action x, which is live, is below p.
-fn is_under(table: &[u64], p: u64, x: u64) -> bool
-    requires { ⌜ Sound (now table) ⌝ }
-    requires { ⌜ IsLiveAction (now table) x ⌝ }
-    ensures { λ r. ⌜ r ≡ isUnder (now (table .entry)) p x ⌝ }
-{
-    if p == STORE {
-        return true;
-    }
-    let above = parent(table, x);
-    if above == STORE {
-        return false;
-    }
-    is_at_or_below(table, p, above)
 }
 
 // The reads first: most actions have none from before m's end, and they cost no walk.

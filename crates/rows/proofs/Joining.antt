@@ -6,21 +6,16 @@ use mathlib.Core.Path.{_≡_, refl, ap, _∙_}
 use mathlib.Core.Logic.{_≢_}
 use mathlib.Core.Bool.{false}
 use mathlib.Core.List.{List}
-use lib.Seq.{set-getD}
 use Rattle.rules.specs.Card.{accountCount, accounts}
 use Rattle.rules.specs.Range.{upFrom, fold}
 use Rattle.rules.specs.Table.{width, word, withWord, withFields, readField, subTimeField, writeField, withRead, withSubTime, withWrite, withReads, withBothSets}
 use Rattle.rules.specs.Commit.{passesRead, joinedRead, joinedTime, joinedWrite, joinTable}
 use Rattle.rules.proofs.Laws.Ranges.{Within, fold-agree}
-use Rattle.rules.proofs.Laws.Words.{word-other-row, word-other-field, withWord-swap}
+use Rattle.rules.proofs.Laws.Words.{word-other-row, word-other-field, withWord-own, withWord-swap}
 use Rattle.rules.proofs.Laws.Fields.{withFields-off-field, withFields-agree}
 use Rattle.rows.specs.Times.{withJoinedRead}
 
 -- ---- a read that is not passed
-
-withWord-own : (w : List ℕ) (n f : ℕ) → withWord w n f (word w n f) ≡ w
-unfolding withWord word
-withWord-own w n f = set-getD w _ 0
 
 pub read-stays : (w : List ℕ) (n p k : ℕ) → passesRead w n p k ≡ false → withJoinedRead w n p k ≡ w
 read-stays w n p k stays = rw (stays, withWord-own w p (readField k)) (withWord-own w p (subTimeField k))

@@ -1,3 +1,4 @@
 -- Facts that the proofs on rows use.
 mod ByKind
 mod Joining
+pub mod JoinedWords

@@ -3,8 +3,8 @@ use Prim.Native.Nat.{ℕ, _≤_, min, max}
 use mathlib.Core.Path.{_≡_}
 use mathlib.Core.Bool.{true, cond}
 use mathlib.Core.List.{List}
-use Rattle.rules.specs.Kind.{topKind, subKind}
-use Rattle.rules.specs.Table.{lastTime, kindOf, withRead, hasRead, withSubTime, readTime}
+use Rattle.rules.specs.Kind.{topKind, subKind, kindUnder}
+use Rattle.rules.specs.Table.{lastTime, parentOf, kindOf, withRead, hasRead, withSubTime, readTime}
 use Rattle.rules.specs.Commit.{passesRead, joinedRead, joinedTime}
 use Rattle.rows.specs.declared.times.Time.{Time}
 use Rattle.rows.specs.declared.times.Time.the-variants.{Top, Sub}
@@ -47,6 +47,17 @@ IsTop w n = kindOf w n ≡ topKind
 
 abbrev pub IsSub : List ℕ → ℕ → Type 0
 IsSub w n = kindOf w n ≡ subKind
+
+-- the children of p are topactions, or subactions: their newest end times are of that kind
+abbrev pub IsParentOfTops : ℕ → Type 0
+IsParentOfTops p = kindUnder p ≡ topKind
+
+abbrev pub IsParentOfSubs : ℕ → Type 0
+IsParentOfSubs p = kindUnder p ≡ subKind
+
+-- n is a child of p: its end time is of the kind of p's newest ones
+abbrev pub IsChild : List ℕ → ℕ → ℕ → Type 0
+IsChild w n p = parentOf w n ≡ p
 
 -- a and b are of one kind, so that their end times can be compared
 abbrev pub AreOfOneKind : List ℕ → ℕ → ℕ → Type 0

@@ -1,7 +1,7 @@
-// The read set, the write set, the pending sums, the own adds and the kept sums of an action.
+// The read set, the write set, the pending sums, the own adds, the kept sums and the newest end times of an action.
 ghost use Prim.Native.Nat.{_+_};
 ghost use mathlib.Core.Path.{_≡_};
-ghost use Rattle.rules.specs.Table.{withFields, hasWrites, hasEnd, withoutAdds, withoutKept, withSets};
+ghost use Rattle.rules.specs.Table.{withFields, hasWrites, hasEnd, withoutAdds, withoutKept, withoutNewest, withSets};
 ghost use Rattle.rows.specs.Row.{HasRow, HasAccountFields, IsFirstAccount, accountsFrom};
 use crate::fields::has_written;
 use crate::fields::is_committed;
@@ -10,6 +10,7 @@ use rules::store::ACCOUNTS;
 use rules::store::FIRST_ACCOUNT;
 use rules::store::FIRST_CHARGE;
 use rules::table::KEPT_FIELDS;
+use rules::table::NEWEST_FIELDS;
 use rules::table::NO_ENTRY;
 use rules::table::OWN_ADDS_FIELDS;
 use rules::table::PENDING_FIELDS;
@@ -77,4 +78,12 @@ pub fn clear_kept(table: &mut [u64], n: u64)
     ensures { λ r. ⌜ now (table .exit) ≡ withoutKept (now (table .entry)) n ⌝ }
 {
     clear_fields(table, n, KEPT_FIELDS, FIRST_CHARGE);
+}
+
+// A start's row: no child has ended, whatever stood there.
+pub fn clear_newest(table: &mut [u64], n: u64)
+    requires { ⌜ HasRow (now table) n ⌝ }
+    ensures { λ r. ⌜ now (table .exit) ≡ withoutNewest (now (table .entry)) n ⌝ }
+{
+    clear_fields(table, n, NEWEST_FIELDS, FIRST_ACCOUNT);
 }

@@ -1,5 +1,7 @@
 // Times of either kind. What is asked of an action's times goes by the action's kind to the one file or to the other; a time of
 // one kind and a time of the other are nowhere compared.
+pub mod ends;
+pub mod newest;
 pub mod sub;
 pub mod top;
 

@@ -1,5 +1,6 @@
--- The clash list, and the search that finds its first clash.
+-- The clash list, the search that finds its first clash, and the verdict by the newest end times.
 pub mod Firsts
 pub mod Clashes
 pub mod Records
 pub mod Searching
+pub mod Known

@@ -9,3 +9,4 @@ pub mod Leaving
 pub mod Kept
 pub mod Verdicts
 pub mod Theorem
+pub mod Newest

@@ -24,6 +24,8 @@ pub mod Freeing
 pub mod Permitted
 pub mod Climbing
 pub mod Walking
+pub mod Under
+pub mod Staleness
 pub mod Versions
 pub mod Charges
 pub mod Integers

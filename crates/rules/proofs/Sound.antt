@@ -1,11 +1,17 @@
 -- Every event keeps every sound table sound: what a change must show, then event by event.
+pub mod Scans
+pub mod NewestClauses
 pub mod Soundness
 pub mod TableChanges
+pub mod NewestKept
+pub mod SoundKept
 pub mod QueueChanges
 pub mod TakingOut
 pub mod Depths
 pub mod Rings
 pub mod Giving
+pub mod Started
+pub mod StartRecords
 pub mod Starting
 pub mod Reading
 pub mod Writing

@@ -1,5 +1,6 @@
 -- RULES 4.5 and 4.8: what a commit that passes leaves. The accounts have their turns from the last down; then the action ends;
--- then its totals are kept at its parent, or as the store's; then its parent, where that is an action, gets its sets.
+-- then its totals are kept at its parent, or as the store's, and its end time is noted there; then its parent, where that is an
+-- action, gets its sets.
 -- Assumes nothing.
 use Prim.Native.Nat.{ℕ, _+_, _-_, min}
 use mathlib.Core.Bool.{Bool, cond, not, _&&_}
@@ -7,9 +8,9 @@ use mathlib.Core.List.{List}
 use lib.Dec.{eqb}
 use lib.IntN.{_+ℤ_}
 use Rattle.rules.specs.Range.{downTo, fold}
-use Rattle.rules.specs.Card.{accountCount, isCharge, chargeAccounts, shadowPlace, cardAt}
+use Rattle.rules.specs.Card.{accountCount, accounts, isCharge, chargeAccounts, shadowPlace, cardAt}
 use Rattle.rules.specs.Amount.{amountWord}
-use Rattle.rules.specs.Table.{committed, withFields, counter, withCounter, kindOf, withState, withEndTime, readEntry, hasRead, subTime, writeEntry, entered, hasWritten, hasWrites, hasCard, pendingSum, keptField, keptAfter, withBothSets}
+use Rattle.rules.specs.Table.{committed, withFields, counter, withCounter, kindOf, withState, endTime, withEndTime, readEntry, hasRead, subTime, writeEntry, entered, hasWritten, hasWrites, hasCard, pendingSum, keptField, keptAfter, newestField, newest, withBothSets}
 use Rattle.rules.specs.Ledger.{Ledger, withTable}
 use Rattle.rules.specs.Held.{heldSum, withHeldCard, withHeldSum}
 
@@ -48,6 +49,16 @@ endTable w n = withCounter (withEndTime (withState w n committed) n (commitTime 
 unfoldable pub keepTable : List ℕ → ℕ → ℕ → List ℕ
 keepTable w n p = withFields w p keptField chargeAccounts (λ k. amountWord (keptAfter w n p k))
 
+-- ---- RULES 4.5: the newest end times
+
+-- p's newest end time for account k once its child n has committed: n's end time where n has written k
+abbrev pub newestAfter : List ℕ → ℕ → ℕ → ℕ → ℕ
+newestAfter w n p k = cond (hasWritten w n k) (endTime w n) (newest w p k)
+
+-- n's end time noted in row p, for each account that n has written; document 02's summary
+unfoldable pub noteTable : List ℕ → ℕ → ℕ → List ℕ
+noteTable w n p = withFields w p newestField accounts (newestAfter w n p)
+
 -- ---- RULES 4.5: the sets of a parent that is an action
 
 -- n's read of account k is passed to its parent p, but where p has a card for k already, before it gets n's
@@ -80,5 +91,5 @@ unfoldable pub committedUnder : Ledger → ℕ → ℕ → Ledger
 committedUnder s n p =
     let copied = copiedDown s n p 0 in
     let ended = endTable (copied .table) n in
-    let kept = keepTable ended n p in
-    withTable copied (cond (eqb p 0) kept (joinTable kept n p))
+    let noted = noteTable (keepTable ended n p) n p in
+    withTable copied (cond (eqb p 0) noted (joinTable noted n p))

@@ -9,6 +9,7 @@ pub mod Held
 pub mod Walk
 pub mod Free
 pub mod Queue
+pub mod Stale
 pub mod Sound
 pub mod Event
 pub mod Answer
@@ -28,3 +29,4 @@ pub mod Tree
 pub mod Serial
 pub mod Balanced
 pub mod History
+pub mod NewestHad

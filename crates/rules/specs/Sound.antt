@@ -3,16 +3,18 @@
 use Prim.Native.Nat.{ℕ, _+_, _-_, _≤_, _<_}
 use mathlib.Core.Path.{_≡_}
 use mathlib.Core.Logic.{_⊎_, _≢_}
-use mathlib.Core.Bool.{Bool, true, false, not, _&&_, _||_}
+use mathlib.Core.Bool.{Bool, true, false, not, _&&_, _||_, Bool·beq}
 use mathlib.Core.List.{List, [], _∷_, map}
 use lib.Dec.{leb, eqb}
 use lib.ListN.{length}
 use Rattle.rules.specs.Range.{upFrom, any, all}
-use Rattle.rules.specs.Kind.{IsKind, kinds}
+use Rattle.rules.specs.Kind.{IsKind, kinds, kindUnder}
 use Rattle.rules.specs.Card.{accountCount, accounts, IsCharge, chargeAccounts}
-use Rattle.rules.specs.Table.{tableLength, mostActions, live, committed, aborted, highest, counter, lastTime, parentOf, kindOf, stateOf, endTime, hasRead, readTime, hasWritten, pendingWord, isLive, hasEnd, actions, hasLiveChild}
-use Rattle.rules.specs.Walk.{climbs, Climbs}
+use Rattle.rules.specs.Table.{tableLength, mostActions, live, committed, aborted, highest, counter, lastTime, parentOf, kindOf, stateOf, endTime, hasRead, readTime, hasWritten, pendingWord, newest, isLive, hasEnd, actions, parents, hasLiveChild}
+use Rattle.rules.specs.Walk.{climbs, Climbs, isUnder}
+use Rattle.rules.specs.Free.{isStoreOrLive}
 use Rattle.rules.specs.Queue.{queueLength, queue, isQueued}
+use Rattle.rules.specs.Stale.{isStale, isKnownStale}
 
 -- 7.3: the counter of kind h has room for an end time of each who waits in queue h
 unfoldable pub isBounded : List ℕ → ℕ → Bool
@@ -91,7 +93,37 @@ unfoldable pub isSoundQueue : List ℕ → ℕ → Bool
 isSoundQueue w h =
     leb (queueLength w h) mostActions && all (mayWait w h) (queueNumbers w h) && areDistinct (queueNumbers w h)
 
--- 7.1 the length, 7.2 the highest number, 7.3 the counters, and those clauses of each action and of each queue
+-- 7.15: none of p's newest end times is later than the counter of its children's kind
+unfoldable pub isNewestInTime : List ℕ → ℕ → Bool
+isNewestInTime w p = all (λ k. leb (newest w p k) (counter w (kindUnder p))) accounts
+
+-- where m has read account k: the read is stale by p's newest end time exactly where it is by p's records
+unfoldable pub isToldTrue : List ℕ → ℕ → ℕ → ℕ → Bool
+isToldTrue w p m k =
+    let t = readTime w (kindUnder p) m k in
+    let alike = Bool·beq (isKnownStale w p k t) (isStale w p k t) in
+    not (hasRead w m k) || alike
+
+-- p's newest end times speak of m's reads: m is below p, at whatever depth
+abbrev pub isSpokenOf : List ℕ → ℕ → ℕ → Bool
+isSpokenOf w p m = isUnder w p m
+
+-- 7.16: of a live m it is so for every account, where they do
+unfoldable pub isNewestTrue : List ℕ → ℕ → ℕ → Bool
+isNewestTrue w p m =
+    let reads = all (isToldTrue w p m) accounts in
+    let spoken = isSpokenOf w p m in
+    let told = not spoken || reads in
+    not (isLive w m) || told
+
+-- .. and of every action, where p is the store or live
+unfoldable pub areNewestTrue : List ℕ → ℕ → Bool
+areNewestTrue w p =
+    let told = all (isNewestTrue w p) (actions w) in
+    not (isStoreOrLive w p) || told
+
+-- 7.1 the length, 7.2 the highest number, 7.3 the counters, and the clauses of each action, of each queue and of each row's newest
+-- end times
 unfoldable pub sound : List ℕ → Bool
 sound w =
     eqb (length w) tableLength
@@ -99,6 +131,8 @@ sound w =
     && all (isBounded w) kinds
     && all (isSoundAction w) (actions w)
     && all (isSoundQueue w) kinds
+    && all (isNewestInTime w) (parents w)
+    && all (areNewestTrue w) (parents w)
 
 -- n has been given, and so is the number of an action that is held
 abbrev pub IsGiven : List ℕ → ℕ → Type 0
@@ -143,3 +177,7 @@ pub record Sound (w : List ℕ) : Type 0 where
       parentOf w m ≡ parentOf w n → endTime w m ≡ endTime w n → m ≡ n
   pub pendings : (n k : ℕ) → IsGiven w n → IsCharge k → hasWritten w n k ≡ false → pendingWord w n k ≡ 0
   pub lines : (h : ℕ) → IsKind h → SoundQueue w h
+  pub newestInTime : (p k : ℕ) → p ≤ highest w → k < accountCount → newest w p k ≤ counter w (kindUnder p)
+  pub newestTrue :
+      (p m k : ℕ) → StoreOrLive w p → IsLiveAction w m → isSpokenOf w p m ≡ true → k < accountCount → hasRead w m k ≡ true →
+      let t = readTime w (kindUnder p) m k in isKnownStale w p k t ≡ isStale w p k t

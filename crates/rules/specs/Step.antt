@@ -11,7 +11,7 @@ use Rattle.rules.specs.Range.{count, fold}
 use Rattle.rules.specs.Card.{isCharge, shadowPlace, withCard}
 use Rattle.rules.specs.Amount.{amountWord, amountIn}
 use Rattle.rules.specs.Kind.{topKind, subKind}
-use Rattle.rules.specs.Table.{live, aborted, highest, withHighest, counter, parentOf, withParent, kindOf, withState, withEndTime, withRead, hasRead, withSubTime, withWrite, entered, hasCard, withPending, pendingSum, ownAdds, withOwnAdds, withoutAdds, withSets, actions, isChildOf, withoutKept}
+use Rattle.rules.specs.Table.{live, aborted, highest, withHighest, counter, parentOf, withParent, kindOf, withState, withEndTime, withRead, hasRead, withSubTime, withWrite, entered, hasCard, withPending, pendingSum, ownAdds, withOwnAdds, withoutAdds, withSets, actions, isChildOf, withoutKept, withoutNewest}
 use Rattle.rules.specs.Walk.{isAbortedBy}
 use Rattle.rules.specs.Free.{nextNumber}
 use Rattle.rules.specs.Queue.{queueLength, headOf, isHeadReady, isQueuedFailed, withTail, withReady, withoutBelow}
@@ -44,7 +44,7 @@ unfoldable pub giveTable : List ℕ → ℕ → ℕ → List ℕ
 giveTable w n p =
     let counted = withHighest (orphaned w n) (max (highest w) n) in
     let opened = withEndTime (withState (withParent counted n p) n live) n 0 in
-    withSets (withoutKept (withoutAdds opened n) n) n (λ k. 0) (λ k. 0) (λ k. 0) (λ k. 0)
+    withSets (withoutNewest (withoutKept (withoutAdds opened n) n) n) n (λ k. 0) (λ k. 0) (λ k. 0) (λ k. 0)
 
 unfoldable pub start : Ledger → ℕ → Outcome
 start s p =

@@ -13,7 +13,7 @@ use Rattle.rules.specs.Card.{accounts, isCharge, chargeAccounts}
 use Rattle.rules.specs.Amount.{amountOf}
 use Rattle.rules.specs.Kind.{topKind, kindUnder}
 
--- RULES 1.3: how many actions a table sees in its life
+-- RULES 1.3: how many numbers there are for actions
 abbrev pub mostActions : ℕ
 mostActions = 64
 
@@ -22,14 +22,14 @@ IsAction n = (1 ≤ n) × (n ≤ mostActions)
 
 -- the words of a row
 abbrev pub width : ℕ
-width = 129
+width = 161
 
 abbrev pub IsField : ℕ → Type 0
 IsField f = f < width
 
 -- the words of a table: the head's row and a row for each action
 abbrev pub tableLength : ℕ
-tableLength = 8385
+tableLength = 10465
 
 -- word f of row n
 unfoldable pub word : List ℕ → ℕ → ℕ → ℕ
@@ -230,6 +230,24 @@ keptSum w n k = amountOf (keptWord w n k)
 unfoldable pub withoutKept : List ℕ → ℕ → List ℕ
 withoutKept w n = withFields w n keptField chargeAccounts (λ k. 0)
 
+-- its newest end time for account k: the end time of the child of its that committed last with k in the write set, 0 where none
+-- has; the children's times, so of their kind. Row 0's is the store's, of the topactions.
+abbrev pub newestFields : ℕ
+newestFields = 129
+
+abbrev pub newestField : ℕ → ℕ
+newestField k = newestFields + k
+
+abbrev pub newest : List ℕ → ℕ → ℕ → ℕ
+newest w p k = word w p (newestField k)
+
+abbrev pub withNewest : List ℕ → ℕ → ℕ → ℕ → List ℕ
+withNewest w p k v = withWord w p (newestField k) v
+
+-- no child of action n has written any account
+unfoldable pub withoutNewest : List ℕ → ℕ → List ℕ
+withoutNewest w n = withFields w n newestField accounts (λ k. 0)
+
 -- RULES 12.2: its total for charge account k: its own adds, and the totals of its committed children
 abbrev pub totalOf : List ℕ → ℕ → ℕ → ℤ
 totalOf w n k = ownAdds w n k +ℤ keptSum w n k
@@ -285,6 +303,10 @@ hasEnd w n = isCommitted w n && hasWrites w n
 -- the numbers given so far; every scan is over these
 unfoldable pub actions : List ℕ → List ℕ
 actions w = upFrom 1 (highest w)
+
+-- whatever may have children: the store, which is 0, and these
+unfoldable pub parents : List ℕ → List ℕ
+parents w = upFrom 0 (highest w + 1)
 
 abbrev pub isChildOf : List ℕ → ℕ → ℕ → Bool
 isChildOf w p m = eqb (parentOf w m) p

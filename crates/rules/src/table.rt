@@ -1,9 +1,9 @@
 // RULES 1.7: the table's words. Row 0 is the head, row n is action n.
 pub const MOST_ACTIONS: u64 = 64;
 
-pub const WIDTH: u64 = 129;
+pub const WIDTH: u64 = 161;
 
-pub const TABLE_LENGTH: usize = 8385;
+pub const TABLE_LENGTH: usize = 10465;
 
 // The number of the store, where an action's could stand, and the head's row.
 pub const STORE: u64 = 0;
@@ -42,6 +42,9 @@ pub const SUB_TIME_FIELDS: u64 = 89;
 
 // Its kept sums, of row 0 the store's, stand this far behind it: the first charge account's directly behind the subaction times.
 pub const KEPT_FIELDS: u64 = 97;
+
+// Its newest end times, of row 0 the store's: one for each account, from here on, behind the kept sums.
+pub const NEWEST_FIELDS: u64 = 129;
 
 // The moves up to a version that is where one stands, and those of a refused look.
 pub const NO_MOVES: u64 = 0;

@@ -1,4 +1,5 @@
-// The test for a sound table: the clauses on the whole of it, those of each action, and those on the queues.
+// The test for a sound table: the clauses on the whole of it, those of each action, those on the queues, and those on newest end
+// times.
 ghost use mathlib.Core.Path.{_≡_};
 ghost use Rattle.rules.specs.Range.{all};
 ghost use Rattle.rules.specs.Kind.{IsKind, kinds};
@@ -6,6 +7,8 @@ ghost use Rattle.rules.specs.Table.{actions};
 ghost use Rattle.rules.specs.Sound.{isBounded, isSoundAction, sound};
 ghost use Rattle.rows.specs.Row.{HasRow, Scannable};
 use crate::action::is_sound_action;
+use crate::newest::are_newest_in_time;
+use crate::parents::all_parents_true;
 use crate::queue::are_sound_queues;
 use rows::entries::queue_length;
 use rows::fields::highest;
@@ -61,5 +64,11 @@ pub fn is_sound(table: &[u64]) -> bool
     if !all_sound(table) {
         return false;
     }
-    are_sound_queues(table)
+    if !are_sound_queues(table) {
+        return false;
+    }
+    if !are_newest_in_time(table) {
+        return false;
+    }
+    all_parents_true(table)
 }

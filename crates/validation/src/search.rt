@@ -52,7 +52,7 @@ fn first_read(table: &[u64], n: u64) -> Time
 }
 
 // The search begins with what ended after n's first read.
-pub fn first_clash(table: &[u64], n: u64) -> Found
+pub(crate) fn first_clash(table: &[u64], n: u64) -> Found
     requires { ⌜ Sound (now table) ⌝ }
     requires { ⌜ IsLiveAction (now table) n ⌝ }
     ensures { λ r. ⌜ r ≡ firstClash (now (table .entry)) n ⌝ }

@@ -1,20 +1,21 @@
-// Subaction times: the subactions' counter, their end times, and the other of the two times of every read. The number in one is
-// known in this file alone, so no time of the other kind can be compared with it.
+// Subaction times: the subactions' counter, their end times, the newest of them under an action, and the other of the two times
+// of every read. The number in one is known in this file alone, so no time of the other kind can be compared with it.
 ghost use mathlib.Core.Path.{_≡_};
 ghost use Prim.Native.Nat.{_+_};
 ghost use lib.Dec.{eqb, ltb};
 ghost use Rattle.rules.specs.Card.{IsAccount};
 ghost use Rattle.rules.specs.Kind.{subKind};
-ghost use Rattle.rules.specs.Table.{counter, withCounter, endTime, withEndTime, readTime, withSubTime};
+ghost use Rattle.rules.specs.Table.{counter, withCounter, endTime, withEndTime, readTime, withSubTime, newest, withNewest};
 ghost use Rattle.rules.specs.Commit.{joinedTime};
 ghost use Rattle.rows.specs.Row.{HasRow};
-ghost use Rattle.rows.specs.Times.{soonerRead, laterRead, IsSub, PassesRead, CanCount};
+ghost use Rattle.rows.specs.Times.{soonerRead, laterRead, IsSub, IsParentOfSubs, PassesRead, CanCount};
 use crate::fields::has_read;
 use crate::words::get;
 use crate::words::put;
 use rules::table::COUNTER_FIELDS;
 use rules::table::END_FIELD;
 use rules::table::HEAD;
+use rules::table::NEWEST_FIELDS;
 use rules::table::NO_END;
 use rules::table::SUB;
 use rules::table::SUB_TIME_FIELDS;
@@ -82,6 +83,25 @@ pub(crate) fn set_sub_end(table: &mut [u64], m: u64, t: SubTime)
     ensures { λ r. ⌜ now (table .exit) ≡ withEndTime (now (table .entry)) m (t .0) ⌝ }
 {
     put(table, m, END_FIELD, t.0);
+}
+
+// The newest end time of p's children for the account.
+pub(crate) fn sub_newest(table: &[u64], p: u64, k: u64) -> SubTime
+    requires { ⌜ HasRow (now table) p ⌝ }
+    requires { ⌜ IsAccount k ⌝ }
+    requires { ⌜ IsParentOfSubs p ⌝ }
+    ensures { λ r. ⌜ r .0 ≡ newest (now (table .entry)) p k ⌝ }
+{
+    SubTime(get(table, p, NEWEST_FIELDS + k))
+}
+
+pub(crate) fn set_sub_newest(table: &mut [u64], p: u64, k: u64, t: SubTime)
+    requires { ⌜ HasRow (now table) p ⌝ }
+    requires { ⌜ IsAccount k ⌝ }
+    requires { ⌜ IsParentOfSubs p ⌝ }
+    ensures { λ r. ⌜ now (table .exit) ≡ withNewest (now (table .entry)) p k (t .0) ⌝ }
+{
+    put(table, p, NEWEST_FIELDS + k, t.0);
 }
 
 // It says nothing where the account isn't in the read set.

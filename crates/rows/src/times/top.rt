@@ -1,20 +1,21 @@
-// Topaction times: the topactions' counter, their end times, and one of the two times of every read. The number in one is known
-// in this file alone, so no time of the other kind can be compared with it.
+// Topaction times: the topactions' counter, their end times, the newest of them under the store, and one of the two times of
+// every read. The number in one is known in this file alone, so no time of the other kind can be compared with it.
 ghost use mathlib.Core.Path.{_≡_};
 ghost use Prim.Native.Nat.{_+_};
 ghost use lib.Dec.{eqb, ltb};
 ghost use Rattle.rules.specs.Card.{IsAccount};
 ghost use Rattle.rules.specs.Kind.{topKind};
-ghost use Rattle.rules.specs.Table.{counter, withCounter, endTime, withEndTime, readTime, withRead};
+ghost use Rattle.rules.specs.Table.{counter, withCounter, endTime, withEndTime, readTime, withRead, newest, withNewest};
 ghost use Rattle.rules.specs.Commit.{joinedRead};
 ghost use Rattle.rows.specs.Row.{HasRow};
-ghost use Rattle.rows.specs.Times.{soonerRead, laterRead, IsTop, HasRead, PassesRead, CanCount};
+ghost use Rattle.rows.specs.Times.{soonerRead, laterRead, IsTop, IsParentOfTops, HasRead, PassesRead, CanCount};
 use crate::fields::has_read;
 use crate::words::get;
 use crate::words::put;
 use rules::table::COUNTER_FIELDS;
 use rules::table::END_FIELD;
 use rules::table::HEAD;
+use rules::table::NEWEST_FIELDS;
 use rules::table::NO_END;
 use rules::table::READ_FIELDS;
 use rules::table::TOP;
@@ -82,6 +83,25 @@ pub(crate) fn set_top_end(table: &mut [u64], m: u64, t: TopTime)
     ensures { λ r. ⌜ now (table .exit) ≡ withEndTime (now (table .entry)) m (t .0) ⌝ }
 {
     put(table, m, END_FIELD, t.0);
+}
+
+// The newest end time of p's children for the account.
+pub(crate) fn top_newest(table: &[u64], p: u64, k: u64) -> TopTime
+    requires { ⌜ HasRow (now table) p ⌝ }
+    requires { ⌜ IsAccount k ⌝ }
+    requires { ⌜ IsParentOfTops p ⌝ }
+    ensures { λ r. ⌜ r .0 ≡ newest (now (table .entry)) p k ⌝ }
+{
+    TopTime(get(table, p, NEWEST_FIELDS + k))
+}
+
+pub(crate) fn set_top_newest(table: &mut [u64], p: u64, k: u64, t: TopTime)
+    requires { ⌜ HasRow (now table) p ⌝ }
+    requires { ⌜ IsAccount k ⌝ }
+    requires { ⌜ IsParentOfTops p ⌝ }
+    ensures { λ r. ⌜ now (table .exit) ≡ withNewest (now (table .entry)) p k (t .0) ⌝ }
+{
+    put(table, p, NEWEST_FIELDS + k, t.0);
 }
 
 // A read entry is one more than the time.

@@ -15,13 +15,12 @@ use Rattle.rules.specs.Step.{addTable, add}
 use Rattle.rules.specs.Serial.Effect.{adds, lay}
 use Rattle.rules.proofs.Laws.Amounts.{amount-read-back}
 use Rattle.rules.proofs.Laws.Permitted.{Touchable}
-use Rattle.rules.proofs.Sound.TableChanges.{TableChange}
+use Rattle.rules.proofs.Sound.TableChanges.{TableChange, action-width, RowKept}
 use Rattle.rules.proofs.Sound.Adding.{firstOwnAdds, add-keeps-field, add-keeps-behind, add-keeps-row, add-entry, add-pending, add-change}
-use Rattle.rules.proofs.Sound.QueueChanges.{action-width}
 use Rattle.rules.proofs.Demand.Abstraction.{effectOf}
 use Rattle.rules.proofs.Demand.Proper.{Proper}
 use Rattle.rules.proofs.Demand.AbstractionLaws.{effect-sum, sum-laid}
-use Rattle.rules.proofs.Demand.Views.{effect-kept, RowKept, change-keeps-proper}
+use Rattle.rules.proofs.Demand.Views.{effect-kept, change-keeps-proper}
 use Rattle.rules.proofs.Demand.Entering.{Entering}
 
 module _

@@ -12,7 +12,7 @@ use Rattle.rules.specs.Ledger.{Ledger}
 use Rattle.rules.specs.Cause.{isCommitOutside}
 use Rattle.rules.specs.Commit.{committedUnder}
 use Rattle.rules.proofs.Laws.Tests.{test}
-use Rattle.rules.proofs.Sound.TableChanges.{change-keeps-sound}
+use Rattle.rules.proofs.Sound.SoundKept.{change-keeps-sound}
 use Rattle.rules.proofs.Laws.Permitted.{Committable}
 use Rattle.rules.proofs.Serial.Shown.{shownBase}
 use Rattle.rules.proofs.Serial.Change.{Change}

@@ -2,16 +2,14 @@
 -- them, and what it changes makes every earlier read of it stale. Assumes nothing.
 use Prim.Native.Nat.{ℕ, _+_, _≤_, _<_}
 use native.Mathlib.Omega.{arith}
-use native.Mathlib.Nat.{le-of-eq}
 use mathlib.Core.Path.{_≡_, sym, _∙_}
-use mathlib.Core.Logic.{_⊎_, inl, inr, ⊎-elim, _≢_}
+use mathlib.Core.Logic.{_⊎_, inl, inr}
 use mathlib.Core.Bool.{true}
 use mathlib.Core.List.{List}
 use borrow.Author.Tests.{eq-eqb}
 use Rattle.rules.specs.Card.{accountCount, accounts}
 use Rattle.rules.specs.Kind.{kindUnder}
-use Rattle.rules.specs.Table.{width, word, counter, parentOf, endTime, readFields, writeField, hasWritten, hasWrites, hasCard, isCommitted, isRecordOf}
-use Rattle.rules.specs.Sound.{IsGiven}
+use Rattle.rules.specs.Table.{width, word, counter, parentOf, endTime, readFields, writeField, hasWritten, hasWrites, hasCard, isRecordOf}
 use Rattle.rules.specs.Ledger.{Ledger}
 use Rattle.rules.specs.Commit.{commitTime, committedUnder}
 use Rattle.rules.specs.Serial.Effect.{nothing}
@@ -19,9 +17,8 @@ use Rattle.rules.proofs.Laws.Tests.{and-both, not-both, false-of-not-tr
 use Rattle.rules.proofs.Laws.Ranges.{any-at}
 use Rattle.rules.proofs.Laws.Sets.{account-within}
 use Rattle.rules.proofs.Laws.Kinds.{kind-known}
-use Rattle.rules.proofs.Sound.QueueChanges.{action-width}
-use Rattle.rules.proofs.Sound.TableChanges.{writes-agree, live-uncommitted}
-use Rattle.rules.proofs.Sound.Committing.{commit-parent, commit-keeps-row, commit-keeps-sets, commit-end}
+use Rattle.rules.proofs.Sound.TableChanges.{writes-agree}
+use Rattle.rules.proofs.Sound.Committing.{commit-parent, commit-keeps-sets, commit-end}
 use Rattle.rules.proofs.Laws.Permitted.{Committable}
 use Rattle.rules.proofs.Serial.AbstractState.{HasRead}
 use Rattle.rules.proofs.Serial.Change.{Stays}
@@ -29,7 +26,7 @@ use Rattle.rules.proofs.Serial.Stale.{AtCommit}
 use Rattle.rules.proofs.Demand.Abstraction.{effectOf, abstraction, Stale}
 use Rattle.rules.proofs.Demand.Proper.{Proper}
 use Rattle.rules.proofs.Demand.AbstractionLaws.{alive-given, alive-live, read-account, read-entered, effect-unwritten, effect-no-account, card-hides}
-use Rattle.rules.proofs.Demand.Views.{RowKept, RecordsKept, stale-stays}
+use Rattle.rules.proofs.Demand.Views.{stale-stays, change-records}
 use Rattle.rules.proofs.Demand.CommitTable.{ReadsOn, table-change, number-few, parent-other, now-committed, read-joined, read-kept}
 use Rattle.rules.proofs.Demand.CommitCards.{by-write-set}
 
@@ -43,26 +40,8 @@ module _ {s : Ledger} (proper : Proper s) {n p : ℕ} (judged : Committable (s .
 
   -- ---- a read that was stale
 
-  -- a committed action isn't the one that commits, nor its parent, which is the store or live
-  pub committed-row-kept : (m : ℕ) → IsGiven (s .table) m → isCommitted (s .table) m ≡ true → RowKept (s .table) table′ m
-  committed-row-kept m begun done g h =
-      commit-keeps-row s n p (judged .own .0) m g (action-width g h) (begun .0) not-committing (inl not-parent)
-    where
-      not-committing : m ≢ n
-      not-committing e = live-uncommitted (s .table) n (judged .alive) (rw e at done)
-
-      not-parent : m ≢ p
-      not-parent e =
-          ⊎-elim
-          (λ top. omega (arith, begun, rw under at top))
-          (λ l. live-uncommitted (s .table) p (rw under at l) (rw e at done))
-          (proper .sound .alive n (judged .own) (judged .alive))
-
-  pub commit-records : RecordsKept (s .table) table′
-  commit-records = record { noFewer = le-of-eq (sym (table-change proper judged under .sameHighest)); rows = committed-row-kept }
-
   stale-kept : {X Y Q k : ℕ} → k < accountCount → ReadsOn (s .table) X table′ Y k → Stale s X Q k → Stale after Y Q k
-  stale-kept account on = stale-stays s after account commit-records (on .times)
+  stale-kept account on = stale-stays s after account (change-records (table-change proper judged under)) (on .times)
 
   -- ---- a read that is stale now: n is a record of p then, with an end time above every live action's reads by the times of n's
   -- kind

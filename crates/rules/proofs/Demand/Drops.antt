@@ -1,29 +1,27 @@
 -- The steps after which no more actions are live and nothing else has changed, as demand 3's proof sees them: an abort, a failed
 -- commit, and a change of a queue. Assumes nothing.
 use Prim.Native.Nat.{ℕ, _≤_, _<_}
-use native.Mathlib.Nat.{le-of-eq}
 use native.Mathlib.Omega.{arith}
-use mathlib.Core.Path.{_≡_, sym}
+use mathlib.Core.Path.{_≡_}
 use mathlib.Core.Logic.{inl, inr, _≢_}
 use mathlib.Core.List.{List}
 use Rattle.rules.specs.Kind.{IsKind}
-use Rattle.rules.specs.Table.{width, aborted, word, parentField, stateField, withState, readField, subTimeField, writeField, pendingField, isLive}
+use Rattle.rules.specs.Table.{width, aborted, word, parentField, stateField, withState, readField, subTimeField, writeField, pendingField}
 use Rattle.rules.specs.Ledger.{Ledger, withTable}
 use Rattle.rules.specs.Queue.{Entry, withQueue}
 use Rattle.rules.specs.Step.{abortTable}
-use Rattle.rules.proofs.Laws.Tests.{and-left}
 use Rattle.rules.proofs.Laws.Permitted.{Committable}
-use Rattle.rules.proofs.Laws.Words.{word-other-row, word-off-field}
-use Rattle.rules.proofs.Sound.TableChanges.{TableChange, live-uncommitted}
-use Rattle.rules.proofs.Sound.QueueChanges.{action-width, given-keeps}
+use Rattle.rules.proofs.Laws.Words.{word-off-field}
+use Rattle.rules.proofs.Sound.TableChanges.{TableChange, RowKept}
+use Rattle.rules.proofs.Sound.QueueChanges.{given-keeps}
 use Rattle.rules.proofs.Sound.Judging.{fail-change}
-use Rattle.rules.proofs.Sound.Aborting.{Spared, abort-keeps-field, abort-keeps-row, abort-change}
+use Rattle.rules.proofs.Sound.Aborting.{Spared, abort-keeps-field, abort-change}
 use Rattle.rules.proofs.Serial.Events.{Drop}
 use Rattle.rules.proofs.Serial.Stale.{Old}
 use Rattle.rules.proofs.Demand.Abstraction.{abstraction, Stale}
 use Rattle.rules.proofs.Demand.Proper.{Proper}
 use Rattle.rules.proofs.Demand.AbstractionLaws.{alive-given}
-use Rattle.rules.proofs.Demand.Views.{RowKept, RecordsKept, Keeps, keeps-still, keeps-old, was-alive, change-keeps-proper}
+use Rattle.rules.proofs.Demand.Views.{Keeps, keeps-still, keeps-old, was-alive, change-keeps-proper, change-records}
 
 -- ---- a change of states alone, and of no committed action's
 
@@ -59,22 +57,12 @@ module _ (s : Ledger) (proper : Proper s) (n : ℕ) (spared : Spared (s .table) 
   abort-keeps : Keeps (s .table) (abortTable (s .table) n)
   abort-keeps = states-keep (abort-keeps-field (s .table) n)
 
-  -- what becomes aborted was live, not committed
-  pub abort-records : RecordsKept (s .table) (abortTable (s .table) n)
-  abort-records =
-      record {
-        noFewer = le-of-eq (sym (change .sameHighest));
-        rows = λ m _ done g inside.
-            abort-keeps-row (s .table) n m g (action-width g inside)
-            (λ h reached. live-uncommitted (s .table) m (and-left (isLive (s .table) m) _ reached) done);
-      }
-
   pub abort-drops : Drop (abstraction s) (abstraction (withTable s (abortTable (s .table) n)))
   abort-drops = change-drops proper change abort-keeps
 
   pub abort-old :
       Old (abstraction s) (abstraction (withTable s (abortTable (s .table) n))) (Stale s) (Stale (withTable s (abortTable (s .table) n)))
-  abort-old = keeps-old s (abortTable (s .table) n) abort-keeps abort-records
+  abort-old = keeps-old s (abortTable (s .table) n) abort-keeps (change-records change)
 
 -- ---- a change of a queue: nobody goes
 
@@ -99,17 +87,13 @@ module _
             (row (readField k) (inl (omega arith)), row (subTimeField k) (inr (omega arith, omega arith)));
       }
 
-  pub queue-records : RecordsKept (s .table) (withQueue (s .table) h es)
-  queue-records =
-      record { noFewer = le-of-eq (sym (change .sameHighest)); rows = λ m begun done. queue-rows m (begun .0) }
-
   pub queue-drops : Drop (abstraction s) (abstraction (withTable s (withQueue (s .table) h es)))
   queue-drops = change-drops proper change queue-keeps
 
   pub queue-old :
       Old (abstraction s) (abstraction (withTable s (withQueue (s .table) h es))) (Stale s)
       (Stale (withTable s (withQueue (s .table) h es)))
-  queue-old = keeps-old s queued queue-keeps queue-records
+  queue-old = keeps-old s queued queue-keeps (change-records change)
 
 -- ---- a failed commit
 
@@ -123,19 +107,9 @@ module _ (s : Ledger) (proper : Proper s) (n : ℕ) (j : Committable (s .table) 
   fail-keeps : Keeps (s .table) failed
   fail-keeps = states-keep (λ m g inside. word-off-field (s .table) n m stateField g aborted (omega arith) inside)
 
-  -- the action that failed was live, not committed
-  pub fail-records : RecordsKept (s .table) (withState (s .table) n aborted)
-  fail-records =
-      record {
-        noFewer = le-of-eq (sym (change-failed .sameHighest));
-        rows = λ m _ done g inside.
-            word-other-row (s .table) n m stateField g aborted (omega arith) (action-width g inside)
-            (λ same. live-uncommitted (s .table) n (j .alive) (rw same at done));
-      }
-
   pub fail-drops : Drop (abstraction s) (abstraction (withTable s (withState (s .table) n aborted)))
   fail-drops = change-drops proper change-failed fail-keeps
 
   pub fail-old :
       Old (abstraction s) (abstraction (withTable s (withState (s .table) n aborted))) (Stale s) (Stale (withTable s (withState (s .table) n aborted)))
-  fail-old = keeps-old s failed fail-keeps fail-records
+  fail-old = keeps-old s failed fail-keeps (change-records change-failed)

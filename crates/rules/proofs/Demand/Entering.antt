@@ -3,8 +3,7 @@
 use Prim.Native.Nat.{ℕ, _<_}
 use native.Mathlib.Omega.{arith}
 use native.Mathlib.Decide.{ℕ-discrete}
-use native.Mathlib.Nat.{le-of-eq}
-use mathlib.Core.Path.{_≡_, sym}
+use mathlib.Core.Path.{_≡_}
 use mathlib.Core.Logic.{_⊎_, inl, inr, _≢_}
 use mathlib.Core.Bool.{true}
 use Rattle.rules.specs.Card.{accountCount}
@@ -15,7 +14,7 @@ use Rattle.rules.specs.Ledger.{Ledger}
 use Rattle.rules.specs.Serial.Effect.{Effect, lay}
 use Rattle.rules.proofs.Laws.Queue.{SameLine}
 use Rattle.rules.proofs.Laws.Permitted.{Touchable, no-live-child}
-use Rattle.rules.proofs.Sound.TableChanges.{TableChange, live-uncommitted}
+use Rattle.rules.proofs.Sound.TableChanges.{TableChange, RowKept}
 use Rattle.rules.proofs.Serial.Values.{accountValues, lay-nothing}
 use Rattle.rules.proofs.Serial.Blocks.{only, only-there, only-elsewhere}
 use Rattle.rules.proofs.Serial.Change.{Change}
@@ -24,7 +23,7 @@ use Rattle.rules.proofs.Serial.Stale.{Old}
 use Rattle.rules.proofs.Demand.Abstraction.{isAlive, effectOf, hasReadAccount, abstraction, Stale}
 use Rattle.rules.proofs.Demand.Proper.{Proper}
 use Rattle.rules.proofs.Demand.AbstractionLaws.{alive-given, alive-live, live-alive, read-account, read-entered, account-read, abstract-tree}
-use Rattle.rules.proofs.Demand.Views.{was-alive, same-parent, same-no-later, RowKept, RecordsKept, stale-stays}
+use Rattle.rules.proofs.Demand.Views.{was-alive, same-parent, same-no-later, stale-stays, change-records}
 
 -- from s to t, n enters account k with the effect f
 pub record Entering (s t : Ledger) (n k : ℕ) (f : Effect) : Type 0 where
@@ -88,15 +87,7 @@ module _
         childless = λ X l. no-live-child (s .table) n childless X (alive-given (s .table) X l) (alive-live (s .table) X l);
       }
 
-  -- a committed action isn't the one that enters
-  pub entering-records : RecordsKept (s .table) (t .table)
-  entering-records =
-      record {
-        noFewer = le-of-eq (sym (e .change .sameHighest));
-        rows = λ m begun done. e .rows m (λ same. live-uncommitted (s .table) n alive (rw same at done));
-      }
-
   pub entering-old : Old (abstraction s) (abstraction t) (Stale s) (Stale t)
   entering-old X Q j x has seen =
       let h = read-account (s .table) X j has in
-      stale-stays s t h entering-records (same-no-later (s .table) (t .table) X j (read-entry-kept X j h) (e .subTimes X j h))
+      stale-stays s t h (change-records (e .change)) (same-no-later (s .table) (t .table) X j (read-entry-kept X j h) (e .subTimes X j h))

@@ -48,7 +48,7 @@ module _ (s : Ledger) (proper : Proper s) (n k : ℕ) (permitted : Touchable (s 
   after = readTable before n k
 
   change : TableChange before after n
-  change = read-change before n k account (proper .sound) own
+  change = read-change before n k account (proper .sound) own alive
 
   proper-after : Proper (withTable s after)
   proper-after = change-keeps-proper proper change

@@ -1,10 +1,9 @@
 -- A read as demand 3's proof sees it: the account is in the reader's read set, or the reader's own card hides all else, and
 -- nobody else has changed. Assumes nothing.
 use Prim.Native.Nat.{ℕ, _+_, _<_}
-use native.Mathlib.Nat.{le-of-eq}
 use native.Mathlib.Omega.{arith}
 use native.Mathlib.Decide.{ℕ-discrete}
-use mathlib.Core.Path.{_≡_, refl, sym, ap}
+use mathlib.Core.Path.{_≡_, refl, ap}
 use mathlib.Core.Logic.{inl, inr, ⊎-elim}
 use mathlib.Core.Bool.{true, false, not}
 use mathlib.Core.List.{List}
@@ -18,15 +17,14 @@ use Rattle.rules.specs.Step.{leavesReadSet, readTable, readAnswer, read}
 use Rattle.rules.specs.Serial.Told.{itRead, told}
 use Rattle.rules.proofs.Laws.Tests.{or-cases, or-inl, test, not-both, cond-holds}
 use Rattle.rules.proofs.Laws.Permitted.{Touchable}
-use Rattle.rules.proofs.Sound.TableChanges.{TableChange, live-uncommitted}
-use Rattle.rules.proofs.Sound.QueueChanges.{action-width}
+use Rattle.rules.proofs.Sound.TableChanges.{TableChange}
 use Rattle.rules.proofs.Sound.Reading.{read-keeps-field, read-keeps-row, read-entry, read-again, read-change}
 use Rattle.rules.proofs.Serial.Events.{Noted, Read}
 use Rattle.rules.proofs.Serial.Stale.{Old}
 use Rattle.rules.proofs.Demand.Abstraction.{abstraction, Stale}
 use Rattle.rules.proofs.Demand.Proper.{Proper}
 use Rattle.rules.proofs.Demand.AbstractionLaws.{alive-given, live-alive, account-read, card-hides}
-use Rattle.rules.proofs.Demand.Views.{RecordsKept, Keeps, keeps-still, keeps-old, was-alive, change-keeps-proper}
+use Rattle.rules.proofs.Demand.Views.{Keeps, keeps-still, keeps-old, was-alive, change-keeps-proper, change-records}
 
 -- its answer tells of a read, whatever the account's kind
 pub read-told : (w base : List ℕ) (n k : ℕ) (leavers : List ℕ) → told (readAnswer w base n k) leavers ≡ itRead
@@ -43,7 +41,7 @@ module _ (s : Ledger) (proper : Proper s) (n k : ℕ) (permitted : Touchable (s 
   after = readTable before n k
 
   change : TableChange before after n
-  change = read-change before n k account (proper .sound) own
+  change = read-change before n k account (proper .sound) own alive
 
   -- both times that are there stay
   words-kept :
@@ -71,16 +69,6 @@ module _ (s : Ledger) (proper : Proper s) (n k : ℕ) (permitted : Touchable (s 
         writes = λ m j l inside. read-keeps-field before n k account m (writeField j) (omega arith) (λ z. omega arith) (λ z. omega arith);
         sums = λ m j l charge. read-keeps-field before n k account m (pendingField j) (omega arith) (λ z. omega arith) (λ z. omega arith);
         reads = λ m j l. words-kept m j;
-      }
-
-  -- a committed action isn't the reader
-  pub read-records : RecordsKept (s .table) (readTable (s .table) n k)
-  read-records =
-      record {
-        noFewer = le-of-eq (sym (change .sameHighest));
-        rows = λ m h done g inside.
-            read-keeps-row before n k account m g (action-width g inside)
-            (λ e. live-uncommitted before n alive (rw e at done));
       }
 
   -- where the reader has no card the account is in its read set then
@@ -112,4 +100,4 @@ module _ (s : Ledger) (proper : Proper s) (n k : ℕ) (permitted : Touchable (s 
 
   pub read-old : Old (abstraction s) (abstraction (read s n k .after)) (Stale s) (Stale (read s n k .after))
   unfolding read
-  read-old = keeps-old s after read-keeps read-records
+  read-old = keeps-old s after read-keeps (change-records change)

@@ -1,21 +1,19 @@
 -- Below, as demand 3's proof says it and as the rule does; and what is above a live action is the store or live. Assumes nothing.
 use Prim.Native.Nat.{ℕ}
-use mathlib.Core.Path.{_≡_, _∙_}
+use native.Mathlib.Omega.{arith}
+use mathlib.Core.Path.{_≡_, refl}
 use mathlib.Core.Logic.{_⊎_, ⊎-elim}
 use mathlib.Core.Bool.{true}
-use lib.Dec.{eqb}
-use borrow.Author.Tests.{eq-eqb}
 use Rattle.rules.specs.Table.{parentOf}
 use Rattle.rules.specs.Walk.{isUnder}
-use Rattle.rules.specs.Free.{isStoreOrLive}
+use Rattle.rules.specs.Sound.{StoreOrLive}
 use Rattle.rules.specs.Ledger.{Ledger}
-use Rattle.rules.proofs.Laws.Tests.{or-cases, or-inl, or-inr}
-use Rattle.rules.proofs.Laws.Walking.{atOrBelow-step, atOrBelow-itself}
 use Rattle.rules.proofs.Serial.Values.{Values}
 use Rattle.rules.proofs.Serial.AbstractState.{AbstractState, Live, Below, child-of, further}
 use Rattle.rules.proofs.Demand.Abstraction.{abstraction}
 use Rattle.rules.proofs.Demand.Proper.{Proper}
-use Rattle.rules.proofs.Demand.AbstractionLaws.{alive-live, parent-alive, live-climbs}
+use Rattle.rules.proofs.Demand.AbstractionLaws.{alive-given, alive-live, parent-alive}
+use Rattle.rules.proofs.Laws.Under.{under-parent, under-further}
 
 pub below-live : {Vs : Values} {s : AbstractState Vs} {Q X : ℕ} → Below s Q X → Live s X
 below-live (child-of l e) = l
@@ -26,29 +24,17 @@ module _ (s : Ledger) (proper : Proper s) where
   below-held (child-of {X = X} l e) = rw (← e) (parent-alive s proper X l)
   below-held (further l b) = below-held b
 
-  pub held-store-or-live : {Q : ℕ} → (Q ≡ 0) ⊎ Live (abstraction s) Q → isStoreOrLive (s .table) Q ≡ true
-  held-store-or-live {Q} =
-      ⊎-elim (λ store. or-inl _ (eq-eqb Q 0 store)) (λ l. or-inr (eqb Q 0) (alive-live (s .table) Q l))
-
-  -- an action is at or below itself, so its child is below it
-  under-parent : {Q : ℕ} → (Q ≡ 0) ⊎ Live (abstraction s) Q → (X : ℕ) → parentOf (s .table) X ≡ Q → isUnder (s .table) Q X ≡ true
-  unfolding isUnder
-  under-parent {Q} held X e =
+  pub held-fact : {Q : ℕ} → (Q ≡ 0) ⊎ Live (abstraction s) Q → StoreOrLive (s .table) Q
+  held-fact =
       ⊎-elim
-      (λ store. or-inl _ (eq-eqb Q 0 store))
-      (λ l.
-      let (ne, up) = live-climbs s proper Q l in
-      or-inr (eqb Q 0) (rw e (atOrBelow-itself (s .table) Q ne up)))
-      held
+      (λ store. (omega arith, λ one. absurd (omega arith)))
+      (λ l. (alive-given (s .table) _ l .1, λ _. alive-live (s .table) _ l))
 
   -- what is below Q for the proof is below Q by the rule
   pub below-under : {Q X : ℕ} → Below (abstraction s) Q X → isUnder (s .table) Q X ≡ true
-  unfolding isUnder
-  below-under (child-of {X = X} l e) = under-parent (rw (← e) (parent-alive s proper X l)) X e
+  below-under (child-of {X = X} l e) =
+      rw (← e) (under-parent (proper .sound) X (alive-given (s .table) X l, alive-live (s .table) X l))
   below-under {Q} (further {X = X} l b) =
-      let (ne, up) = live-climbs s proper (parentOf (s .table) X) (below-live b) in
-      ⊎-elim (or-inl _)
-      (λ above.
-      or-inr (eqb Q 0)
-      (atOrBelow-step (s .table) Q (parentOf (s .table) X) ne up ∙ or-inr (eqb (parentOf (s .table) X) Q) above))
-      (or-cases (eqb Q 0) _ (below-under b))
+      let above = below-live b in
+      under-further (proper .sound) Q X (parentOf (s .table) X)
+      (alive-given (s .table) _ above, alive-live (s .table) _ above) refl (below-under b)

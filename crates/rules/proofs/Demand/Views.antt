@@ -9,12 +9,11 @@ use mathlib.Core.Bool.{true}
 use mathlib.Core.List.{List}
 use Rattle.rules.specs.Card.{accountCount, firstCharge, IsCharge, shadowPlace, cardAt}
 use Rattle.rules.specs.Kind.{kindUnder}
-use Rattle.rules.specs.Table.{IsActionField, word, highest, parentField, parentOf, stateField, endField, readEntry, hasRead, subTime, readTime, writeField, writeEntry, hasWrites, pendingWord, isCommitted, isRecordOf}
+use Rattle.rules.specs.Table.{highest, parentOf, stateField, endField, readEntry, hasRead, subTime, readTime, writeField, writeEntry, pendingWord, isCommitted}
 use Rattle.rules.specs.Sound.{IsGiven}
 use Rattle.rules.specs.Ledger.{Ledger, withTable}
-use Rattle.rules.proofs.Laws.Tests.{and-left}
-use Rattle.rules.proofs.Sound.TableChanges.{TableChange, change-keeps-sound, writes-agree}
-use Rattle.rules.proofs.Clash.Records.{record-has-end}
+use Rattle.rules.proofs.Sound.TableChanges.{TableChange, RowKept}
+use Rattle.rules.proofs.Sound.SoundKept.{change-keeps-sound}
 use Rattle.rules.proofs.Serial.Events.{Still, lays-nothing}
 use Rattle.rules.proofs.Serial.Stale.{Old}
 use Rattle.rules.proofs.Serial.Settling.{is-charge, below-charges}
@@ -23,6 +22,7 @@ use Rattle.rules.proofs.Copies.Lines.{shadow-line, line-fits}
 use Rattle.rules.proofs.Demand.Abstraction.{isAlive, writtenEffect, effectOf, hasReadAccount, abstraction, Stale}
 use Rattle.rules.proofs.Demand.Proper.{Proper}
 use Rattle.rules.proofs.Demand.AbstractionLaws.{alive-given, alive-live, live-alive, read-account, read-entered, account-read, effect-account, effect-no-account, by-account, by-charge, abstract-tree}
+use Rattle.rules.proofs.Sound.NewestKept.{record-committed, record-kept}
 
 -- ---- effects
 
@@ -40,22 +40,6 @@ effect-kept s t X k entry sum card =
     (λ beyond. effect-no-account t X k beyond ∙ sym (effect-no-account s X k beyond))
 
 -- ---- stale reads
-
--- no word of action m has changed
-abbrev pub RowKept : List ℕ → List ℕ → ℕ → Type 0
-RowKept w v m = (g : ℕ) → IsActionField g → word v m g ≡ word w m g
-
-pub record-committed : (w : List ℕ) (Q m : ℕ) → isRecordOf w Q m ≡ true → isCommitted w m ≡ true
-record-committed w Q m is = and-left (isCommitted w m) (hasWrites w m) (record-has-end w Q m is)
-
-pub record-kept : (w v : List ℕ) (Q m : ℕ) → RowKept w v m → isRecordOf v Q m ≡ isRecordOf w Q m
-unfolding isRecordOf
-record-kept w v Q m row =
-    rw (
-      row parentField (inl (omega arith)),
-      row stateField (inl (omega arith)),
-      writes-agree w v m (λ k h. row (writeField k) (inl (omega arith))),
-    )
 
 -- Y's read of account k in v is no later than X's in w, by its time of either kind.
 abbrev pub NoLater : List ℕ → ℕ → List ℕ → ℕ → ℕ → Type 0
@@ -83,6 +67,10 @@ stale-by-kept-row s t {Q = Q} {k = k} account st begun row no-later =
 pub record RecordsKept (w v : List ℕ) : Type 0 where
   pub noFewer : highest w ≤ highest v
   pub rows : (m : ℕ) → IsGiven w m → isCommitted w m ≡ true → RowKept w v m
+
+-- so it is where nothing starts
+pub change-records : {w v : List ℕ} {now : ℕ} → TableChange w v now → RecordsKept w v
+change-records c = record { noFewer = le-of-eq (sym (c .sameHighest)); rows = c .finals }
 
 pub records-same : (w : List ℕ) → RecordsKept w w
 records-same w = record { noFewer = le-refl (highest w); rows = λ m begun done g inside. refl }

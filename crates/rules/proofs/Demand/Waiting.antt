@@ -17,7 +17,9 @@ use Rattle.rules.proofs.Laws.Each.{Each, each-both, each-filter, each-a
 use Rattle.rules.proofs.Serial.Stale.{Passes}
 use Rattle.rules.proofs.Demand.Abstraction.{abstraction, Stale}
 use Rattle.rules.proofs.Demand.AbstractionLaws.{read-account, read-entered, account-read}
-use Rattle.rules.proofs.Demand.Views.{RowKept, record-committed, same-no-later, stale-by-kept-row}
+use Rattle.rules.proofs.Demand.Views.{same-no-later, stale-by-kept-row}
+use Rattle.rules.proofs.Sound.NewestKept.{record-committed}
+use Rattle.rules.proofs.Sound.TableChanges.{RowKept}
 
 -- ---- the fact
 

@@ -30,9 +30,10 @@ use Rattle.rules.proofs.Serial.Stale.{Passes}
 use Rattle.rules.proofs.Demand.Abstraction.{abstraction, Stale}
 use Rattle.rules.proofs.Demand.Proper.{Proper}
 use Rattle.rules.proofs.Demand.AbstractionLaws.{read-account, read-entered, account-read}
-use Rattle.rules.proofs.Demand.Views.{RowKept, record-committed, same-no-later, stale-by-kept-row}
+use Rattle.rules.proofs.Demand.Views.{same-no-later, stale-by-kept-row}
+use Rattle.rules.proofs.Sound.NewestKept.{record-committed}
+use Rattle.rules.proofs.Sound.TableChanges.{RowKept}
 use Rattle.rules.proofs.Demand.CommitTable.{table-change, parent-other}
-use Rattle.rules.proofs.Demand.CommitStale.{committed-row-kept}
 use Rattle.rules.proofs.Demand.Waiting.{Behind, Waits, LeftAlone, waits-alone}
 use Rattle.rules.proofs.Demand.WaitingSteps.{Waiting, each-listed}
 use Rattle.rules.proofs.Demand.WaitingQueue.{waits-after-out, waits-out}
@@ -67,7 +68,7 @@ module _ {s : Ledger} (proper : Proper s) {n : ℕ} (free : Committable (s .tabl
         let done : isCommitted (s .table) m ≡ true =
         rw (commit-keeps-row s n p (free .own .0) m stateField (omega arith) (begun .0) other (inr (omega arith)))
         at (record-committed table′ Q m (st .isRecord)) in
-        stale-by-kept-row after s account st begun (λ g field. sym (committed-row-kept proper free refl m begun done g field))
+        stale-by-kept-row after s account st begun (λ g field. sym (table-change proper free refl .finals m begun done g field))
         (same-no-later table′ (s .table) X k (sym (row (readField k) (inl (omega arith))))
         (sym (row (subTimeField k) (inr (omega arith, omega arith)))))
 

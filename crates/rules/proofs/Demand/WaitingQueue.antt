@@ -25,11 +25,10 @@ use Rattle.rules.proofs.Laws.Sets.{account-within}
 use Rattle.rules.proofs.Laws.Kinds.{kind-known}
 use Rattle.rules.proofs.Laws.Each.{Each, each-all, each-mapped}
 use Rattle.rules.proofs.Laws.Permitted.{Committable}
-use Rattle.rules.proofs.Sound.TableChanges.{TableChange}
+use Rattle.rules.proofs.Sound.TableChanges.{TableChange, RowKept}
 use Rattle.rules.proofs.Sound.QueueChanges.{other-queue, tail-queue, tail-change, readied-number, ready-queue, ready-change, without-queue, without-change}
 use Rattle.rules.proofs.Demand.Proper.{Proper}
 use Rattle.rules.proofs.Demand.Drops.{queue-rows}
-use Rattle.rules.proofs.Demand.Views.{RowKept}
 use Rattle.rules.proofs.Demand.Passes.{no-clash-passes}
 use Rattle.rules.proofs.Demand.Waiting.{Here, Behind, Waits, LeftAlone, waits-alone, NoneCommits, row-alone, none-no-new, waits-filter, waits-append}
 use Rattle.rules.proofs.Demand.WaitingSteps.{Waiting, each-listed, queue-waits}

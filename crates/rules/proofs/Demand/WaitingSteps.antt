@@ -25,19 +25,18 @@ use Rattle.rules.proofs.Laws.Queue.{SameLine, queue-kept}
 use Rattle.rules.proofs.Laws.Each.{Each}
 use Rattle.rules.proofs.Laws.Freeing.{Givable}
 use Rattle.rules.proofs.Laws.Permitted.{Startable, Touchable, Committable}
-use Rattle.rules.proofs.Sound.TableChanges.{live-uncommitted}
-use Rattle.rules.proofs.Sound.QueueChanges.{action-width}
+use Rattle.rules.proofs.Sound.TableChanges.{live-uncommitted, action-width, RowKept}
 use Rattle.rules.proofs.Sound.Giving.{give-line}
-use Rattle.rules.proofs.Sound.Starting.{live-row}
+use Rattle.rules.proofs.Sound.Started.{live-row}
 use Rattle.rules.proofs.Sound.Reading.{read-keeps-field, read-keeps-row, read-line, read-change}
 use Rattle.rules.proofs.Sound.Judging.{fail-line, fail-change}
 use Rattle.rules.proofs.Sound.Aborting.{Spared, abort-keeps-row, abort-keeps-committed, abort-line, abort-change}
 use Rattle.rules.proofs.Demand.Proper.{Proper}
-use Rattle.rules.proofs.Demand.AbstractionLaws.{live-alive, parent-alive}
-use Rattle.rules.proofs.Demand.Views.{RowKept}
-use Rattle.rules.proofs.Demand.Starts.{start-givable, record-was-there}
+use Rattle.rules.proofs.Demand.Starts.{start-givable}
 use Rattle.rules.proofs.Demand.Entering.{Entering}
 use Rattle.rules.proofs.Demand.Waiting.{Waits, LeftAlone, waits-alone, NoneCommits, none-no-new, row-alone}
+use Rattle.rules.proofs.Sound.StartRecords.{record-was-there}
+use Rattle.rules.proofs.Laws.Walking.{parent-store-or-live}
 
 -- of all who wait, queue by queue
 abbrev pub Waiting : Ledger → Type 0
@@ -107,9 +106,10 @@ module _ (s : Ledger) (proper : Proper s) where
         let may = proper .sound .lines h known .waits (e .number) queued in
         let row : RowKept w begun (e .number) =
         λ g inside. live-row w next p (proper .sound) givable (e .number) g (may .begun) (may .alive) (action-width g inside) in
-        let held = parent-alive s proper (e .number) (live-alive w (e .number) (may .begun) (may .alive)) in
+        let held = parent-store-or-live (proper .sound) (e .number) (may .begun) (may .alive) in
         row-alone s (withTable s begun) e row
-        (λ m given is. record-was-there s proper p permitted held given (rw (row parentField (inl (omega arith))) at is))
+        (λ m given is.
+        record-was-there w next p (proper .sound) givable held given (rw (row parentField (inl (omega arith))) at is))
 
     pub waits-start : Waiting s → Waiting (start s p .after)
     unfolding start isQueued
@@ -131,7 +131,7 @@ module _ (s : Ledger) (proper : Proper s) where
     pub waits-read : Waiting s → Waiting (read s n k .after)
     unfolding read
     waits-read =
-        let change = read-change w n k (permitted .account) (proper .sound) (permitted .own) in
+        let change = read-change w n k (permitted .account) (proper .sound) (permitted .own) (permitted .alive) in
         waiting-kept s (withTable s (readTable w n k)) (read-line w n k (permitted .account) (proper .sound) (permitted .own))
         (others-kept w (readTable w n k) n (change .sameHighest) (live-uncommitted (readTable w n k) n reader-live) read-row)
         (λ h known X queued. read-row X (waiting-given h known X queued .0) (waiting-other (permitted .unqueued) h known X queued))

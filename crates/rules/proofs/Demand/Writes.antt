@@ -13,14 +13,14 @@ use Rattle.rules.specs.Step.{writeTable, write}
 use Rattle.rules.specs.Serial.Effect.{puts, lay}
 use Rattle.rules.proofs.Laws.Cards.{Fits, withCard-length, cardAt-same, cardAt-apart}
 use Rattle.rules.proofs.Laws.Permitted.{Touchable}
-use Rattle.rules.proofs.Sound.TableChanges.{TableChange, change-keeps-sound}
+use Rattle.rules.proofs.Sound.TableChanges.{TableChange, action-width, RowKept}
+use Rattle.rules.proofs.Sound.SoundKept.{change-keeps-sound}
 use Rattle.rules.proofs.Sound.Writing.{write-keeps-field, write-keeps-row, write-entry, write-change}
 use Rattle.rules.proofs.Copies.Lines.{shadow-apart}
-use Rattle.rules.proofs.Sound.QueueChanges.{action-width}
 use Rattle.rules.proofs.Demand.Abstraction.{effectOf}
 use Rattle.rules.proofs.Demand.Proper.{Proper}
 use Rattle.rules.proofs.Demand.AbstractionLaws.{effect-card}
-use Rattle.rules.proofs.Demand.Views.{effect-kept, shadow-fits, RowKept}
+use Rattle.rules.proofs.Demand.Views.{effect-kept, shadow-fits}
 use Rattle.rules.proofs.Demand.Entering.{Entering}
 
 module _

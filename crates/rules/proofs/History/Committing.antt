@@ -1,39 +1,59 @@
 -- A commit keeps what is remembered, and its own record joins it. A read that the parent has got is the child's, who was below all
 -- whom the parent is below. Assumes nothing.
-use Prim.Native.Nat.{ℕ, _≤_, _<_, min}
+use Prim.Native.Nat.{ℕ, _≤_, _<_, max}
 use native.Mathlib.Omega.{arith}
 use native.Mathlib.Decide.{ℕ-discrete}
-use native.Mathlib.Nat.{le-of-eq}
-use mathlib.Core.Path.{_≡_, refl, sym, _∙_}
+use mathlib.Core.Path.{_≡_, refl, sym, _∙_, ap}
 use mathlib.Core.Logic.{_⊎_, inl, inr, ⊎-elim, _≢_}
-use mathlib.Core.Bool.{Bool, true, false}
-use lib.Dec.{leb}
-use borrow.Author.Tests.{leb-true, leb-false}
+use mathlib.Core.Bool.{Bool, true, false, cond, not}
+use lib.Dec.{eqb}
 use mathlib.Core.List.{List, [], _∷_, _++_, List·Memᴰ, List·Memᴰ·append-cases, List·Memᴰ·eq-of-singleton, List·Memᴰ·head, Memᴰ·append-left, Memᴰ·append-right}
-use Rattle.rules.specs.Card.{accountCount}
+use Rattle.rules.specs.Card.{accountCount, accounts}
 use Rattle.rules.specs.Kind.{kindUnder}
-use Rattle.rules.specs.Table.{width, word, counter, parentField, parentOf, stateField, endField, readField, readEntry, hasRead, subTimeField, readTime, writeField, hasWrites, isCommitted, isRecordOf}
+use Rattle.rules.specs.Table.{counter, parentField, parentOf, stateField, endField, readTime, writeField, hasWrites, isCommitted, isRecordOf, newest, hasWritten, endTime, highest, kindOf, newestField}
 use Rattle.rules.specs.Sound.{IsGiven}
 use Rattle.rules.specs.Ledger.{Ledger}
-use Rattle.rules.specs.Commit.{passesRead, joinedWord, joinedRead, committedUnder}
+use Rattle.rules.specs.Commit.{committedUnder, commitTime}
 use Rattle.rules.specs.Serial.Collect.{put}
 use Rattle.rules.specs.History.{Had, History, recordIn, withRecord}
-use Rattle.rules.proofs.Laws.Tests.{and-left, and-right, test}
+use Rattle.rules.proofs.Laws.Tests.{and-right, test}
 use Rattle.rules.proofs.Laws.Puts.{put-there, put-elsewhere}
 use Rattle.rules.proofs.Laws.Permitted.{Committable}
-use Rattle.rules.proofs.Sound.TableChanges.{writes-agree, change-keeps-sound}
-use Rattle.rules.proofs.Sound.Committing.{commit-parent, commit-keeps-row}
+use Rattle.rules.proofs.Sound.TableChanges.{writes-agree, RowKept, TableChange}
+use Rattle.rules.proofs.Sound.SoundKept.{change-keeps-sound}
+use Rattle.rules.proofs.Sound.Committing.{commit-parent, commit-keeps-row, commit-noted, commit-unnoted, commit-end, commit-keeps-others, commit-keeps-sets}
 use Rattle.rules.proofs.Clash.Records.{record-parent, record-has-end}
 use Rattle.rules.proofs.Serial.AbstractState.{Below, HasRead}
-use Rattle.rules.proofs.Demand.Abstraction.{isAlive, hasReadAccount, abstraction}
+use Rattle.rules.proofs.Demand.Abstraction.{abstraction}
 use Rattle.rules.proofs.Demand.Proper.{Proper}
-use Rattle.rules.proofs.Demand.AbstractionLaws.{alive-given, live-alive, read-account, read-entered, account-read}
-use Rattle.rules.proofs.Demand.Views.{RowKept, record-committed}
-use Rattle.rules.proofs.Demand.CommitTable.{table-change, still-alive-other, parent-read, parent-time}
-use Rattle.rules.proofs.Demand.CommitStale.{commit-records, own-writes-kept, now-record}
+use Rattle.rules.proofs.Sound.NewestKept.{record-committed}
+use Rattle.rules.proofs.Demand.CommitTable.{table-change, number-few, parent-few, parent-other}
+use Rattle.rules.proofs.Demand.CommitStale.{own-writes-kept, now-record}
 use Rattle.rules.proofs.History.Remembered.{StandsIn, Recorded, read-later, Held, Remembers}
-use Rattle.rules.proofs.History.Following.{ReadFrom, own, child's, Follows, old-kept, old-real, old-ends}
-use Rattle.rules.proofs.History.Calm.{same-read}
+use Rattle.rules.proofs.History.Following.{old-kept, old-real, old-ends}
+use Rattle.rules.specs.NewestHad.{newestHad}
+use Rattle.rules.proofs.Laws.Ranges.{any-at, not-any-at}
+
+-- the newest of records and one more
+newest-appended :
+    (k : ℕ) (rs : List Had) (r : Had) →
+    newestHad k (rs ++ (r ∷ [])) ≡ cond (r .wrote k) (max (newestHad k rs) (r .end)) (newestHad k rs)
+unfolding newestHad
+newest-appended k [] r = by-write (r .wrote k)
+  where
+    by-write : (b : Bool) → cond b (max (r .end) 0) 0 ≡ cond b (max 0 (r .end)) 0
+    by-write true = omega arith
+    by-write false = refl
+newest-appended k (x ∷ rs) r = rw (newest-appended k rs r) (by-writes (x .wrote k) (r .wrote k))
+  where
+    by-writes :
+        (b c : Bool) →
+        cond b (max (x .end) (cond c (max (newestHad k rs) (r .end)) (newestHad k rs))) (cond c (max (newestHad k rs) (r .end)) (newestHad k rs))
+        ≡ cond c (max (cond b (max (x .end) (newestHad k rs)) (newestHad k rs)) (r .end)) (cond b (max (x .end) (newestHad k rs)) (newestHad k rs))
+    by-writes true true = omega arith
+    by-writes true false = refl
+    by-writes false true = refl
+    by-writes false false = refl
 
 module _ {s : Ledger} (proper : Proper s) {n p : ℕ} (judged : Committable (s .table) n) (under : parentOf (s .table) n ≡ p) where
   abbrev w : List ℕ
@@ -45,64 +65,8 @@ module _ {s : Ledger} (proper : Proper s) {n p : ℕ} (judged : Committable (s .
   abbrev w′ : List ℕ
   w′ = committedUnder s n p .table
 
-  -- ---- where a read comes from
-
-  committer-alive : isAlive w n ≡ true
-  committer-alive = live-alive w n (judged .own) (judged .alive)
-
-  -- each word of the parent's read is the parent's or the child's
-  module _ (h k : ℕ) (action : 1 ≤ p) (account : k < accountCount) (has : hasRead w′ p k ≡ true) where
-    from-child : hasRead w n k ≡ true → readTime w h n k ≤ readTime w′ h p k → ReadFrom w w′ h p k
-    from-child read earlier = child's n committer-alive under (account-read w n k account read) earlier
-
-    from-parent : hasRead w p k ≡ true → readTime w h p k ≤ readTime w′ h p k → ReadFrom w w′ h p k
-    from-parent read earlier = own (account-read w p k account read) earlier
-
-    parent-from : ReadFrom w w′ h p k
-    parent-from = by-pass (passesRead w n p k) refl (hasRead w p k) refl
-      where
-        time : readTime w′ h p k ≡ joinedWord w n p k (readTime w h n k) (readTime w h p k)
-        time = parent-time proper judged under k action account h
-
-        entry : readEntry w′ p k ≡ joinedRead w n p k
-        entry = parent-read proper judged under k action account
-
-        by-pass : (b : Bool) → passesRead w n p k ≡ b → (c : Bool) → hasRead w p k ≡ c → ReadFrom w w′ h p k
-        by-pass true passes true read =
-            let earlier : readTime w′ h p k ≡ min (readTime w h n k) (readTime w h p k) = rw (passes, read) at time in
-            ⊎-elim
-            (λ less. from-child (and-left (hasRead w n k) _ passes) (omega (arith, leb-true (readTime w h n k) (readTime w h p k) less)))
-            (λ more. from-parent read (omega (arith, leb-false (readTime w h n k) (readTime w h p k) more)))
-            (test (leb (readTime w h n k) (readTime w h p k)))
-        by-pass true passes false unread =
-            from-child (and-left (hasRead w n k) _ passes) (le-of-eq (sym (rw (passes, unread) at time)))
-        by-pass false stays c is =
-            from-parent (rw (rw stays at entry) at has) (le-of-eq (sym (rw stays at time)))
-
-  reads-from : (h X k : ℕ) → isAlive w′ X ≡ true → hasReadAccount w′ X k ≡ true → ReadFrom w w′ h X k
-  reads-from h X k l has = by-parent (ℕ-discrete X p)
-    where
-      action : 1 ≤ X
-      action = alive-given w′ X l .0
-
-      account : k < accountCount
-      account = read-account w′ X k has
-
-      row : X ≢ p → (g : ℕ) → g < width → word w′ X g ≡ word w X g
-      row ne g inside =
-          commit-keeps-row s n p (judged .own .0) X g inside action (still-alive-other proper judged under X l) (inl ne)
-
-      by-parent : Dec (X ≡ p) → ReadFrom w w′ h X k
-      by-parent (yes e) = rw e (parent-from h k (rw e at action) account (rw e at (read-entered w′ X k has)))
-      by-parent (no ne) = same-read w w′ h X k (row ne (readField k) (omega (arith, account))) (row ne (subTimeField k) (omega (arith, account))) has
-
-  follows : Follows w w′ n
-  follows =
-      record {
-        change = table-change proper judged under;
-        records = commit-records proper judged under;
-        reads = λ h X k known. reads-from h X k;
-      }
+  change : TableChange w w′ n
+  change = table-change proper judged under
 
   -- ---- the record that joins, as it is read from a later table v which has kept the row
 
@@ -159,7 +123,7 @@ module _ {s : Ledger} (proper : Proper s) {n p : ℕ} (judged : Committable (s .
     new-had writes = rw (joined writes, put-there had p _) (Memᴰ·append-right (had p) (List·Memᴰ·head refl))
 
     begun : IsGiven w′ n
-    begun = rw (follows .change .sameHighest) (judged .own)
+    begun = rw (change .sameHighest) (judged .own)
 
     new-recorded : hasWrites w n ≡ true → Recorded w′ p (recordIn v n)
     new-recorded writes =
@@ -175,7 +139,7 @@ module _ {s : Ledger} (proper : Proper s) {n p : ℕ} (judged : Committable (s .
         readTime w′ (kindUnder Q) X k < r .end → Recorded w′ Q r
     kept-on Q X k below has r member late =
         ⊎-elim
-        (λ old. old-kept s t proper follows remembers Q X k below has r old late)
+        (λ old. old-kept s t proper change remembers Q X k below has r old late)
         (λ (same, new, writes). rw (same, new) (new-recorded writes))
         (old-or-new Q r member)
 
@@ -184,7 +148,7 @@ module _ {s : Ledger} (proper : Proper s) {n p : ℕ} (judged : Committable (s .
     real-on Q m held given is = by-number (ℕ-discrete m n)
       where
         was-given : IsGiven w m
-        was-given = rw (follows .change .sameHighest) at given
+        was-given = rw (change .sameHighest) at given
 
         by-number : Dec (m ≡ n) → (r : Had) × List·Memᴰ r (had′ Q) × StandsIn w′ r m
         by-number (yes same) =
@@ -196,18 +160,92 @@ module _ {s : Ledger} (proper : Proper s) {n p : ℕ} (judged : Committable (s .
         by-number (no other) =
             let state = commit-keeps-row s n p (judged .own .0) m stateField (omega arith) (given .0) other (inr (omega arith)) in
             let (r, member, stands) =
-            old-real s t proper follows remembers Q m held was-given (rw state at (record-committed w′ Q m is)) is in
+            old-real s t proper change remembers Q m held was-given (rw state at (record-committed w′ Q m is)) is in
             (r, still-had Q r member, stands)
 
     ends-on : (Q : ℕ) → Held t Q → (r : Had) → List·Memᴰ r (had′ Q) → r .end ≤ counter w′ (kindUnder Q)
     ends-on Q held r member =
         ⊎-elim
-        (old-ends s t proper follows remembers Q held r)
+        (old-ends s t proper change remembers Q held r)
         (λ (same, new, writes).
-        let sound = change-keeps-sound w w′ n (proper .sound) (follows .change) in
+        let sound = change-keeps-sound w w′ n (proper .sound) (change) in
         let in-time = sound .ends n begun (record-has-end w′ p n (now-record proper judged under writes)) .1 in
         rw (same, new, row endField (inl (omega arith))) (rw (commit-parent s n p (judged .own .0) n ∙ under) at in-time))
         (old-or-new Q r member)
 
+    -- ---- the newest end times
+
+    noted : (k : ℕ) → k < accountCount → hasWritten w n k ≡ true → newest w′ p k ≡ commitTime w n
+    noted =
+        commit-noted s n p (judged .own .0) (proper .sound .long) (number-few proper judged under) (parent-few proper judged under)
+        (λ same. parent-other proper judged under (sym same))
+
+    unnoted : (k : ℕ) → k < accountCount → hasWritten w n k ≡ false → newest w′ p k ≡ newest w p k
+    unnoted =
+        commit-unnoted s n p (judged .own .0) (proper .sound .long) (number-few proper judged under) (parent-few proper judged under)
+        (λ same. parent-other proper judged under (sym same))
+
+    wrote-as : (k : ℕ) → k < accountCount → hasWritten v n k ≡ hasWritten w n k
+    wrote-as k account =
+        ap (λ entry. not (eqb entry 0))
+        (row (writeField k) (inl (omega arith))
+        ∙ commit-keeps-sets s n p (judged .own .0) (λ same. parent-other proper judged under (sym same)) (writeField k) (omega arith)
+        (omega arith))
+
+    ended-at : endTime v n ≡ commitTime w n
+    ended-at =
+        row endField (inl (omega arith)) ∙ commit-end s n p (judged .own .0) (proper .sound .long) (number-few proper judged under)
+
+    -- the new end time is above all that were had
+    newest-joined : (k : ℕ) → k < accountCount → newest w′ p k ≡ newestHad k (had p ++ (recordIn v n ∷ []))
+    unfolding commitTime hasWrites accounts
+    newest-joined k account =
+        by-write (hasWritten w n k) refl
+        ∙ sym
+        (newest-appended k (had p) (recordIn v n)
+        ∙ rw (wrote-as k account, ended-at, sym (remembers .newests p k parent-known account)) refl)
+      where
+        parent-known : p ≤ highest w
+        parent-known = rw under at (proper .sound .known n (judged .own))
+
+        in-time : newest w p k ≤ counter w (kindOf w n)
+        in-time = rw under (proper .sound .newestInTime p k parent-known account)
+
+        by-write :
+            (b : Bool) → hasWritten w n k ≡ b → newest w′ p k ≡ cond b (max (newest w p k) (commitTime w n)) (newest w p k)
+        by-write true wrote =
+            noted k account wrote
+            ∙ rw (any-at (hasWritten w n) 0 accountCount k (omega arith) wrote) (omega (arith, in-time))
+        by-write false none = unnoted k account none
+
+    newests-on : (Q k : ℕ) → Q ≤ highest w′ → k < accountCount → newest w′ Q k ≡ newestHad k (had′ Q)
+    unfolding hasWrites accounts
+    newests-on Q k known′ account = ⊎-elim writing silent (test (hasWrites w n))
+      where
+        known : Q ≤ highest w
+        known = rw (change .sameHighest) at known′
+
+        elsewhere : Q ≢ p → newest w′ Q k ≡ newestHad k (had Q)
+        elsewhere other =
+            commit-keeps-others s n p (judged .own .0) Q other (newestField k) (omega arith) (omega arith)
+            ∙ remembers .newests Q k known account
+
+        silent : hasWrites w n ≡ false → newest w′ Q k ≡ newestHad k (had′ Q)
+        silent none = rw (unchanged none) (at-parent (ℕ-discrete Q p))
+          where
+            at-parent : Dec (Q ≡ p) → newest w′ Q k ≡ newestHad k (had Q)
+            at-parent (yes same) =
+                rw same
+                (unnoted k account (not-any-at (hasWritten w n) 0 accountCount k none (omega arith))
+                ∙ remembers .newests p k (rw same at known) account)
+            at-parent (no other) = elsewhere other
+
+        writing : hasWrites w n ≡ true → newest w′ Q k ≡ newestHad k (had′ Q)
+        writing writes = rw (joined writes) (at-parent (ℕ-discrete Q p))
+          where
+            at-parent : Dec (Q ≡ p) → newest w′ Q k ≡ newestHad k (put had p (had p ++ (recordIn v n ∷ [])) Q)
+            at-parent (yes same) = rw (same, put-there had p (had p ++ (recordIn v n ∷ []))) (newest-joined k account)
+            at-parent (no other) = rw (put-elsewhere had p (had p ++ (recordIn v n ∷ [])) Q other) (elsewhere other)
+
     pub commit-remembers : Remembers (committedUnder s n p) (withRecord v n had)
-    commit-remembers = record { kept = kept-on; real = real-on; ends = ends-on }
+    commit-remembers = record { kept = kept-on; real = real-on; ends = ends-on; newests = newests-on }

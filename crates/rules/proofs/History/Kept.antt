@@ -52,12 +52,12 @@ module _ {s : Ledger} (proper : Proper s) (e : Event) {had : History} (remembers
   writes : Touchable (s .table) n k → IsCard (e .card) → k < firstCharge → RemembersAfter (write s n k (e .card)) []
   unfolding RemembersAfter write commitsAt withRecords withoutGiven
   writes permitted card plain =
-      entering-remembers proper remembers permitted (write-enters s proper n k permitted plain (e .card) card)
+      entering-remembers proper remembers (write-enters s proper n k permitted plain (e .card) card)
 
   adds : Touchable (s .table) n k → IsCharge k → AddFits (s .table) n k (e .card) → RemembersAfter (add s n k (e .card)) []
   unfolding RemembersAfter add commitsAt withRecords withoutGiven
   adds permitted charge fits =
-      entering-remembers proper remembers permitted (add-enters s proper n k permitted charge (e .card) (fits .pendingFits))
+      entering-remembers proper remembers (add-enters s proper n k permitted charge (e .card) (fits .pendingFits))
 
   judges : Committable (s .table) n → (f : Found) → RemembersAfter (judged s n f) []
   unfolding RemembersAfter judged commitsAt withRecords withoutGiven

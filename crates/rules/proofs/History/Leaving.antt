@@ -16,14 +16,13 @@ use Rattle.rules.proofs.Laws.Permitted.{Committable, Judgeable}
 use Rattle.rules.proofs.Sound.QueueChanges.{ready-change, without-change, out-committable}
 use Rattle.rules.proofs.Sound.Leaving.{head-committable}
 use Rattle.rules.proofs.Demand.Proper.{Proper, left-proper, out-proper, head-out-proper, leave-by-proper-heads, leave-proper}
-use Rattle.rules.proofs.Demand.Views.{RecordsKept, records-same, records-twice, change-keeps-proper}
-use Rattle.rules.proofs.Demand.Drops.{queue-records, fail-records}
+use Rattle.rules.proofs.Demand.Views.{RecordsKept, change-records, records-same, records-twice, change-keeps-proper}
 use Rattle.rules.proofs.Demand.CommitTable.{now-committed, table-change}
-use Rattle.rules.proofs.Demand.CommitStale.{commit-records}
 use Rattle.rules.proofs.Demand.LeaversKept.{spared}
 use Rattle.rules.proofs.History.Remembered.{Remembers}
 use Rattle.rules.proofs.History.Calm.{queue-remembers, abort-remembers, fail-remembers}
 use Rattle.rules.proofs.History.Committing.{commit-remembers}
+use Rattle.rules.proofs.Sound.Judging.{fail-change}
 
 -- ---- out of a queue
 
@@ -33,8 +32,7 @@ module _ {s : Ledger} (proper : Proper s) (h : ℕ) (known : IsKind h) (n : ℕ)
   out-remembers remembers = queue-remembers proper remembers h known _ (without-change (proper .sound) h known n n)
 
   out-records : RecordsKept (s .table) (withoutBelow (s .table) h n)
-  unfolding withoutBelow
-  out-records = queue-records s proper h known _ (without-change (proper .sound) h known n n)
+  out-records = change-records (without-change (proper .sound) h known n n)
 
 -- ---- those who leave
 
@@ -70,14 +68,14 @@ module _ (h : ℕ) (known : IsKind h) (s : Ledger) (proper : Proper s) (ready : 
   head-by-sums true later =
       record {
         records =
-            records-twice (records-twice (out-records proper h known n) (fail-records u without-head n free)) (later .records);
+            records-twice (records-twice (out-records proper h known n) (change-records (fail-change (u .table) (without-head .sound) n free))) (later .records);
         remembers = λ v kept had was.
             later .remembers v kept had (fail-remembers without-head (out-remembers proper h known n was) n free);
       }
   head-by-sums false later =
       record {
         records =
-            records-twice (records-twice (out-records proper h known n) (commit-records without-head free refl)) (later .records);
+            records-twice (records-twice (out-records proper h known n) (change-records (table-change without-head free refl))) (later .records);
         remembers = λ v kept had was.
             let row = records-twice (later .records) kept .rows n (rw (table-change without-head free refl .sameHighest) (free .own))
             (now-committed without-head free refl) in

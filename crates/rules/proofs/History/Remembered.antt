@@ -9,13 +9,15 @@ use mathlib.Core.List.{List, List·Memᴰ}
 use lib.Dec.{eqb}
 use Rattle.rules.specs.Card.{accountCount}
 use Rattle.rules.specs.Kind.{kindUnder}
-use Rattle.rules.specs.Table.{counter, endField, endTime, readTime, writeField, hasWritten, isRecordOf}
+use Rattle.rules.specs.Table.{counter, endField, endTime, readTime, writeField, hasWritten, isRecordOf, highest, newest}
 use Rattle.rules.specs.Sound.{IsGiven}
 use Rattle.rules.specs.Ledger.{Ledger}
 use Rattle.rules.specs.History.{Had, History, recordIn}
 use Rattle.rules.proofs.Serial.AbstractState.{Live, Below, HasRead}
 use Rattle.rules.proofs.Demand.Abstraction.{abstraction}
-use Rattle.rules.proofs.Demand.Views.{RowKept, record-kept}
+use Rattle.rules.proofs.Sound.NewestKept.{record-kept}
+use Rattle.rules.proofs.Sound.TableChanges.{RowKept}
+use Rattle.rules.specs.NewestHad.{newestHad}
 
 -- ---- a record in the table
 
@@ -79,3 +81,5 @@ pub record Remembers (s : Ledger) (had : History) : Type 0 where
       (r : Had) × List·Memᴰ r (had Q) × StandsIn (s .table) r m
   -- none ended later than now
   pub ends : (Q : ℕ) → Held s Q → (r : Had) → List·Memᴰ r (had Q) → r .end ≤ counter (s .table) (kindUnder Q)
+  -- the newest is noted, of finished parents too
+  pub newests : (Q k : ℕ) → Q ≤ highest (s .table) → k < accountCount → newest (s .table) Q k ≡ newestHad k (had Q)

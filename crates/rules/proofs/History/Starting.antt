@@ -3,14 +3,13 @@
 use Prim.Native.Nat.{ℕ, _≤_, _<_}
 use native.Mathlib.Omega.{arith}
 use native.Mathlib.Decide.{ℕ-discrete}
-use mathlib.Core.Path.{_≡_, refl, sym, ap, _∙_}
+use mathlib.Core.Path.{_≡_, sym, ap, _∙_}
 use mathlib.Core.Logic.{inl, inr, ⊎-elim, _≢_}
-use mathlib.Core.Bool.{Bool, true, false, not, cond}
+use mathlib.Core.Bool.{true, not}
 use mathlib.Core.List.{List, [], List·Memᴰ, List·Memᴰ·not-nil}
 use lib.Dec.{eqb}
-use borrow.Author.Tests.{eq-eqb}
 use Rattle.rules.specs.Kind.{kindUnder}
-use Rattle.rules.specs.Table.{counter, parentField, parentOf, readField, readEntry, subTimeField, subTime, readTime, isChildOf, isRecordOf}
+use Rattle.rules.specs.Table.{counter, parentField, parentOf, readField, readEntry, subTimeField, subTime, readTime, isRecordOf, highest, newest}
 use Rattle.rules.specs.Free.{nextNumber}
 use Rattle.rules.specs.Sound.{IsGiven}
 use Rattle.rules.specs.Ledger.{Ledger, withTable}
@@ -21,17 +20,20 @@ use Rattle.rules.proofs.Laws.Tests.{not-both}
 use Rattle.rules.proofs.Laws.Kinds.{kind-known}
 use Rattle.rules.proofs.Laws.Puts.{put-there, put-elsewhere}
 use Rattle.rules.proofs.Laws.Permitted.{Startable}
-use Rattle.rules.proofs.Sound.Giving.{give-read, give-counter}
-use Rattle.rules.proofs.Sound.Starting.{start-highest, by-age, old-parent}
-use Rattle.rules.proofs.Clash.Records.{record-parent}
+use Rattle.rules.proofs.Sound.Giving.{give-read, give-counter, give-newest, give-highest}
+use Rattle.rules.proofs.Sound.Started.{start-highest}
 use Rattle.rules.proofs.Serial.AbstractState.{Below, child-of, further, HasRead}
 use Rattle.rules.proofs.Demand.Abstraction.{isAlive, hasReadAccount, abstraction}
 use Rattle.rules.proofs.Demand.Proper.{Proper}
 use Rattle.rules.proofs.Demand.AbstractionLaws.{alive-given, read-account, read-entered, account-read, parent-alive}
-use Rattle.rules.proofs.Demand.Views.{record-committed, record-kept}
-use Rattle.rules.proofs.Demand.Unders.{below-live, below-held}
-use Rattle.rules.proofs.Demand.Starts.{givable, live-row-kept, others-were-alive, held-other, needed-row-kept, committed-other, record-was-there}
+use Rattle.rules.proofs.Sound.NewestKept.{record-kept}
+use Rattle.rules.proofs.Demand.Unders.{below-live, below-held, held-fact}
+use Rattle.rules.proofs.Demand.Starts.{givable, live-row-kept, others-were-alive, needed-row}
 use Rattle.rules.proofs.History.Remembered.{StandsIn, Recorded, recorded-on, stands-on, Held, Remembers}
+use Rattle.rules.proofs.Sound.StartRecords.{held-other, record-was-there, no-record, newest-kept}
+use Rattle.rules.specs.NewestHad.{newestHad}
+use Rattle.rules.specs.Card.{accountCount}
+use Rattle.rules.proofs.Laws.Freeing.{Givable}
 
 module _ {s : Ledger} (proper : Proper s) (p : ℕ) (permitted : Startable (s .table) p) where
   abbrev w : List ℕ
@@ -47,6 +49,9 @@ module _ {s : Ledger} (proper : Proper s) (p : ℕ) (permitted : Startable (s .t
   abbrev t : Ledger
   t = withTable s v
 
+  given-next : Givable w next
+  given-next = givable s proper p permitted
+
   -- ---- who is below whom
 
   -- the new action has read nothing
@@ -57,7 +62,7 @@ module _ {s : Ledger} (proper : Proper s) (p : ℕ) (permitted : Startable (s .t
       not-both (read-entered v X k has)
       (rw new
       (ap (λ entry. not (eqb entry 0))
-      (give-read w next p (proper .sound .long) (givable s proper p permitted .first) (givable s proper p permitted .few) k
+      (give-read w next p (proper .sound .long) (given-next .first) (given-next .few) k
       (read-account v X k has)))))
 
   -- whoever was live is below those that it was below
@@ -76,18 +81,6 @@ module _ {s : Ledger} (proper : Proper s) (p : ℕ) (permitted : Startable (s .t
   held-before (inr l) other = inr (others-were-alive s proper p permitted _ l other)
 
   -- ---- the records
-
-  -- the new action has none: its earlier holder's children are nobody's
-  no-record : (m : ℕ) → IsGiven v m → isRecordOf v next m ≡ true → ⊥
-  no-record m begun is =
-      by-age w next p (proper .sound) (givable s proper p permitted) (λ x. parentOf v x ≡ next → x ≢ next → ⊥)
-      (λ x old child other. by-child x other (isChildOf w next x) refl (sym (old-parent w next p (proper .sound) (givable s proper p permitted) x old) ∙ child))
-      (λ _ new. new refl)
-      m begun (record-parent v next m is) (committed-other s proper p permitted m (record-committed v next m is))
-    where
-      by-child : (x : ℕ) → x ≢ next → (b : Bool) → isChildOf w next x ≡ b → cond b x (parentOf w x) ≡ next → ⊥
-      by-child x other true child own = other own
-      by-child x other false child kept = not-both (eq-eqb _ _ kept) child
 
   module _ {had : History} (remembers : Remembers s had) where
     -- the records of all others are as they were
@@ -108,19 +101,19 @@ module _ {s : Ledger} (proper : Proper s) (p : ℕ) (permitted : Startable (s .t
         let entry : readEntry v X k ≡ readEntry w X k = row (readField k) (inl (omega arith)) in
         let time : subTime v X k ≡ subTime w X k = row (subTimeField k) (inr (omega arith, omega arith)) in
         let had-read : hasReadAccount w X k ≡ true = account-read w X k account (rw entry at (read-entered v X k has)) in
-        let other = held-other s proper p permitted (below-held s proper under) in
+        let other = held-other w next p (proper .sound) given-next (held-fact s proper (below-held s proper under)) in
         let late′ : readTime w (kindUnder Q) X k < r .end = rw (entry, time) at late in
         let is = remembers .kept Q X k under had-read r (rw (others-had other) at member) late′ in
-        recorded-on is (omega (arith, is .begun, start-highest w next p (proper .sound) (givable s proper p permitted)))
-        (needed-row-kept s proper p permitted k under had-read (is .begun) (is .isRecord) (rw (is .stands .end) late′))
+        recorded-on is (omega (arith, is .begun, start-highest w next p (proper .sound) given-next))
+        (needed-row s proper p permitted k under had-read (is .begun) (is .isRecord) (rw (is .stands .end) late′))
 
     real-on :
         (Q m : ℕ) → Held t Q → IsGiven v m → isRecordOf v Q m ≡ true →
         (r : Had) × List·Memᴰ r (had′ Q) × StandsIn v r m
     real-on Q m held begun is =
-        let other : Q ≢ next = λ same. no-record m begun (rw same at is) in
+        let other : Q ≢ next = λ same. no-record w next p (proper .sound) given-next m begun (rw same at is) in
         let was = held-before held other in
-        let (begun′, row) = record-was-there s proper p permitted was begun is in
+        let (begun′, row) = record-was-there w next p (proper .sound) given-next (held-fact s proper was) begun is in
         let (r, member, stands) = remembers .real Q m was begun′ (sym (record-kept w v Q m row) ∙ is) in
         (r, rw (others-had other) member, stands-on w v m row stands)
 
@@ -130,9 +123,23 @@ module _ {s : Ledger} (proper : Proper s) (p : ℕ) (permitted : Startable (s .t
         go : Dec (Q ≡ next) → r .end ≤ counter v (kindUnder Q)
         go (yes same) = absurd (List·Memᴰ·not-nil (rw (put-there had next []) at (rw same at member)))
         go (no other) =
-            rw (give-counter w next p (kindUnder Q) (givable s proper p permitted .first) (kind-known Q))
+            rw (give-counter w next p (kindUnder Q) (given-next .first) (kind-known Q))
             (remembers .ends Q (held-before held other) r (rw (others-had other) at member))
+
+    newests-on : (Q k : ℕ) → Q ≤ highest v → k < accountCount → newest v Q k ≡ newestHad k (had′ Q)
+    unfolding newestHad
+    newests-on Q k known account = go (ℕ-discrete Q next)
+      where
+        go : Dec (Q ≡ next) → newest v Q k ≡ newestHad k (had′ Q)
+        go (yes same) =
+            rw (same, put-there had next []) (give-newest w next p (proper .sound .long) (given-next .first) (given-next .few) k account)
+        go (no other) =
+            rw (others-had other)
+            (newest-kept w next p (proper .sound) given-next Q k known other account ∙ remembers .newests Q k was account)
+          where
+            was : Q ≤ highest w
+            was = omega (arith, give-highest w next p (proper .sound .long) (given-next .first) (given-next .few), given-next .near)
 
     pub start-remembers : Remembers (start s p .after) (put had (nextNumber (s .table)) [])
     unfolding start
-    start-remembers = record { kept = kept-on; real = real-on; ends = ends-on }
+    start-remembers = record { kept = kept-on; real = real-on; ends = ends-on; newests = newests-on }

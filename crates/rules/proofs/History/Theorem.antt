@@ -1,11 +1,11 @@
 -- RULES 4.9: no verdict is lost, for every list of events. Assumes nothing.
-use Prim.Native.Nat.{ℕ}
+use Prim.Native.Nat.{ℕ, _+_, _*_}
 use native.Mathlib.Omega.{arith}
 use mathlib.Core.Path.{_≡_}
 use mathlib.Core.List.{List, [], _∷_, List·Memᴰ·not-nil}
-use lib.ListN.{length}
+use lib.ListN.{length, getD-replicate}
 use Rattle.rules.specs.Card.{baseLength, shadowLength}
-use Rattle.rules.specs.Table.{newTable, word}
+use Rattle.rules.specs.Table.{newTable, word, tableLength, width, newestField}
 use Rattle.rules.specs.Event.{Event}
 use Rattle.rules.specs.Ledger.{Ledger}
 use Rattle.rules.specs.Step.{step}
@@ -17,6 +17,7 @@ use Rattle.rules.proofs.Demand.Proper.{Proper, new-proper, step-keeps-p
 use Rattle.rules.proofs.History.Remembered.{Remembers}
 use Rattle.rules.proofs.History.Kept.{step-remembers}
 use Rattle.rules.proofs.History.Verdicts.{same-verdict}
+use Rattle.rules.specs.NewestHad.{newestHad}
 
 pub run-remembers :
     (s : Ledger) (es : List Event) (had : History) → Proper s → Remembers s had → Remembers (run s es .after) (historyFrom s es had)
@@ -27,12 +28,15 @@ run-remembers s (e ∷ es) had proper remembers =
 
 -- there was nothing to remember
 new-remembers : (base shadow : List ℕ) → Remembers (newOver base shadow) noRecords
-unfolding noRecords newTable word
+unfolding noRecords newestHad newTable word
 new-remembers base shadow =
     record {
       kept = λ Q X k below has r member. absurd (List·Memᴰ·not-nil member);
       real = λ Q m held given. absurd (omega arith);
       ends = λ Q held r member. absurd (List·Memᴰ·not-nil member);
+      newests = λ Q k known account.
+          let store : Q ≡ 0 = omega arith in
+          rw store (getD-replicate tableLength (width * 0 + newestField k) 0 0 (omega arith));
     }
 
 module _

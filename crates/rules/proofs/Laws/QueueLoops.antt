@@ -1,6 +1,6 @@
 -- What loops over a queue's positions go by: what stands there already can be put there again, and the words of a queue make no
 -- difference to who is reached by an abort. Assumes nothing.
-use Prim.Native.Nat.{ℕ, zero, suc, _+_, _*_, _≤_, _<_}
+use Prim.Native.Nat.{ℕ, zero, suc, _+_, _≤_, _<_}
 use native.Mathlib.Nat.{add-zero, add-suc, suc-add}
 use native.Mathlib.Omega.{arith}
 use mathlib.Core.Path.{_≡_, refl, ap, ap₂, _∙_}
@@ -8,31 +8,27 @@ use mathlib.Core.Logic.{inl}
 use mathlib.Core.Bool.{true, _&&_}
 use mathlib.Core.List.{List, _++_, map}
 use lib.Dec.{eqb}
-use lib.Seq.{set-getD}
 use borrow.Author.Tests.{eq-eqb}
 use Rattle.rules.specs.Range.{upFrom}
 use Rattle.rules.specs.Kind.{IsKind}
-use Rattle.rules.specs.Table.{width, live, parentField, stateField, word, withWord}
+use Rattle.rules.specs.Table.{width, live, parentField, stateField, word}
 use Rattle.rules.specs.Walk.{isAbortedBy}
 use Rattle.rules.specs.Queue.{numberField, verdictField, readyField, queueLength, withQueueLength, Entry, entryAt, withEntry, isOf, queue, isQueued, withEntries}
 use Rattle.rules.proofs.Laws.Ranges.{any-at}
 use Rattle.rules.proofs.Laws.Lists.{any-map}
+use Rattle.rules.proofs.Laws.Words.{withWord-own}
 use Rattle.rules.proofs.Laws.Walking.{atOrBelow-agree}
 use Rattle.rules.proofs.Laws.Queue.{OffEntry}
 
 -- ---- what stands there put there again
 
-word-back : (w : List ℕ) (n f : ℕ) → withWord w n f (word w n f) ≡ w
-unfolding word withWord
-word-back w n f = set-getD w (width * n + f) 0
-
 module _ (w : List ℕ) (h : ℕ) where
   pub queueLength-back : withQueueLength w h (queueLength w h) ≡ w
-  queueLength-back = word-back w 0 _
+  queueLength-back = withWord-own w 0 _
 
   pub entry-back : (i : ℕ) → withEntry w h i (entryAt w h i) ≡ w
   unfolding withEntry entryAt
-  entry-back i = rw (word-back w i (numberField h), word-back w i (verdictField h), word-back w i (readyField h))
+  entry-back i = rw (withWord-own w i (numberField h), withWord-own w i (verdictField h), withWord-own w i (readyField h))
 
   -- several positions from i on, and other entries behind them
   pub entries-back :

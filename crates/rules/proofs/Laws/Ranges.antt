@@ -10,7 +10,7 @@ use mathlib.Core.Bool.{Bool, true, false, cond, false≢true, _||_}
 use mathlib.Core.List.{List, [], _∷_, map, List·Memᴰ, List·Memᴰ·head, List·Memᴰ·tail, List·Memᴰ·not-nil, List·Memᴰ·cases-cons}
 use lib.ListN.{length}
 use Rattle.rules.specs.Range.{upFrom, downTo, any, all, count, filter, fold}
-use Rattle.rules.proofs.Laws.Tests.{and-left, and-right, and-both, or-inl, or-inr, or-neither, cond-holds}
+use Rattle.rules.proofs.Laws.Tests.{and-left, and-right, and-both, or-cases, or-inl, or-inr, or-neither, cond-holds}
 
 -- x is one of the n numbers from a on
 abbrev pub Within : ℕ → ℕ → ℕ → Type 0
@@ -37,6 +37,15 @@ unfolding any upFrom
 any-at f a zero x h p = absurd (omega (arith, add-zero a))
 any-at f a (suc n) x h p =
     ⊎-elim (λ e. or-inl _ (rw e at p)) (λ r. or-inr (f a) (any-at f (suc a) n x r p)) (first-or-rest a n x h)
+
+pub any-found : (f : ℕ → Bool) (a n : ℕ) → any f (upFrom a n) ≡ true → (x : ℕ) × Within a n x × (f x ≡ true)
+unfolding any upFrom
+any-found f a zero p = absurd (false≢true p)
+any-found f a (suc n) p =
+    ⊎-elim
+    (λ here. (a, first-within a n, here))
+    (λ later. let (x, r, is) = any-found f (suc a) n later in (x, rest-within a n x r, is))
+    (or-cases (f a) (any f (upFrom (suc a) n)) p)
 
 pub not-any-at : (f : ℕ → Bool) (a n x : ℕ) → any f (upFrom a n) ≡ false → Within a n x → f x ≡ false
 unfolding any upFrom

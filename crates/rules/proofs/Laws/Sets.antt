@@ -1,5 +1,5 @@
--- Both sets of an action given anew, its pending sums with them, and its own adds and kept sums cleared: what stands in the
--- table then.
+-- Both sets of an action given anew, its pending sums with them, and its own adds, kept sums and newest end times cleared: what
+-- stands in the table then.
 -- Assumes nothing.
 use Prim.Native.Nat.{ℕ, _≤_, _<_}
 use native.Mathlib.Omega.{arith}
@@ -9,7 +9,7 @@ use mathlib.Core.List.{List}
 use lib.ListN.{length}
 use Rattle.rules.specs.Range.{upFrom}
 use Rattle.rules.specs.Card.{accountCount, accounts, firstCharge, chargeCount, IsCharge, chargeAccounts}
-use Rattle.rules.specs.Table.{entryFields, width, tableLength, word, withFields, readFields, readField, readEntry, subTimeFields, subTimeField, subTime, writeFields, writeField, writeEntry, pendingField, pendingWord, ownAddsField, ownAddsWord, withoutAdds, keptField, keptWord, withoutKept, withReads, withBothSets, withSets, mostActions}
+use Rattle.rules.specs.Table.{entryFields, width, tableLength, word, withFields, readFields, readField, readEntry, subTimeFields, subTimeField, subTime, writeFields, writeField, writeEntry, pendingField, pendingWord, ownAddsField, ownAddsWord, withoutAdds, keptField, keptWord, withoutKept, newestFields, newestField, newest, withoutNewest, withReads, withBothSets, withSets, mostActions}
 use Rattle.rules.proofs.Laws.Ranges.{Within}
 use Rattle.rules.proofs.Laws.Fields.{withFields-length, withFields-other-row, withFields-other-field, withFields-same}
 
@@ -221,3 +221,27 @@ module _ (w : List ℕ) (n : ℕ) where
   withoutKept-same long few k charge =
       withFields-same w n keptField firstCharge chargeCount _ long few k
       (charge-within charge) (omega arith) (λ x h ne z. ne (omega arith))
+
+-- ---- newest end times cleared
+
+module _ (w : List ℕ) (n : ℕ) where
+  pub withoutNewest-length : length (withoutNewest w n) ≡ length w
+  unfolding withoutNewest accounts
+  withoutNewest-length = withFields-length w n newestField 0 accountCount _
+
+  -- the rows of others
+  pub withoutNewest-other-row : (m g : ℕ) → g < width → m ≢ n → word (withoutNewest w n) m g ≡ word w m g
+  unfolding withoutNewest accounts
+  withoutNewest-other-row m g hg ne = withFields-other-row w n newestField 0 accountCount _ m g (λ k h. omega arith) hg ne
+
+  -- what stands before them
+  pub withoutNewest-before : (g : ℕ) → g < newestFields → word (withoutNewest w n) n g ≡ word w n g
+  unfolding withoutNewest accounts
+  withoutNewest-before g near = withFields-other-field w n newestField 0 accountCount _ g (λ k h z. omega arith)
+
+  pub withoutNewest-same :
+      length w ≡ tableLength → n ≤ mostActions → (k : ℕ) → k < accountCount → newest (withoutNewest w n) n k ≡ 0
+  unfolding withoutNewest accounts
+  withoutNewest-same long few k account =
+      withFields-same w n newestField 0 accountCount _ long few k
+      (account-within account) (omega arith) (λ x h ne z. ne (omega arith))

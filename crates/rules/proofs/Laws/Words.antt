@@ -6,7 +6,7 @@ use mathlib.Core.Path.{_≡_}
 use mathlib.Core.Logic.{_≢_}
 use mathlib.Core.List.{List}
 use lib.ListN.{length, length-set}
-use lib.Seq.{getD-set-same, getD-set-other, set-comm}
+use lib.Seq.{getD-set-same, getD-set-other, set-comm, set-getD}
 use Rattle.rules.specs.Table.{width, tableLength, word, withWord, mostActions}
 
 pub withWord-length : (w : List ℕ) (n f v : ℕ) → length (withWord w n f v) ≡ length w
@@ -24,6 +24,11 @@ word-other-row w n m f g v hf hg ne = getD-set-other w (width * n + f) (width * 
 pub word-other-field : (w : List ℕ) (n f g v : ℕ) → g ≢ f → word (withWord w n f v) n g ≡ word w n g
 unfolding word withWord
 word-other-field w n f g v ne = getD-set-other w (width * n + f) (width * n + g) v 0 (λ e. ne (omega arith))
+
+-- what stands there may be put there again
+pub withWord-own : (w : List ℕ) (n f : ℕ) → withWord w n f (word w n f) ≡ w
+unfolding word withWord
+withWord-own w n f = set-getD w (width * n + f) 0
 
 -- ---- the same laws, as they are used most
 

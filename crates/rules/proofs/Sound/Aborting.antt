@@ -13,7 +13,7 @@ use lib.ListN.{length}
 use Rattle.rules.specs.declared.Answer.the-variants.{Aborted}
 use Rattle.rules.specs.Range.{count}
 use Rattle.rules.specs.Kind.{IsKind}
-use Rattle.rules.specs.Table.{hasEnd, width, live, committed, aborted, word, highestField, highest, counterField, counter, parentField, parentOf, stateField, stateOf, endField, readField, readEntry, subTimeField, subTime, writeField, pendingField, isLive, isCommitted, actions}
+use Rattle.rules.specs.Table.{hasEnd, width, live, committed, aborted, word, highestField, highest, counterField, counter, parentField, parentOf, stateField, stateOf, endField, readField, subTimeField, writeField, pendingField, isLive, isCommitted, actions, newestField}
 use Rattle.rules.specs.Walk.{isAtOrBelow, isAbortedBy}
 use Rattle.rules.specs.Queue.{queueLengthField, isQueued}
 use Rattle.rules.specs.Sound.{hasState, IsGiven, Sound}
@@ -23,7 +23,7 @@ use Rattle.rules.proofs.Laws.Tests.{and-left, and-right, and-both, cond
 use Rattle.rules.proofs.Laws.Ranges.{count-some, any-at, count-agree}
 use Rattle.rules.proofs.Laws.RowPass.{pass-length, pass-other-field, pass-other-row, pass-field}
 use Rattle.rules.proofs.Laws.Queue.{SameLine}
-use Rattle.rules.proofs.Sound.TableChanges.{ReadsInTime, TableChange, bounds-stay, sum-stays, line-stays, writes-agree}
+use Rattle.rules.proofs.Sound.TableChanges.{ReadsFrom, TableChange, bounds-stay, sum-stays, line-stays, writes-agree, same-read, RowKept, Ended, calm-newest, action-width, live-uncommitted}
 use Rattle.rules.proofs.Sound.TakingOut.{out-sound, out-keeps, out-reach}
 use Rattle.rules.proofs.Laws.Walking.{atOrBelow-itself, notBelow-parent}
 
@@ -101,11 +101,19 @@ module _ (w : List ℕ) (n : ℕ) where
         ap₂ _&&_ (abort-keeps-committed m h)
         (writes-agree w _ m (λ k hk. abort-keeps-field m (writeField k) (omega arith) (λ z. omega arith)))
 
-    reads-kept : ReadsInTime w (abortTable w n)
-    reads-kept h m k known begun l hk r =
-        let entry : readEntry (abortTable w n) m k ≡ readEntry w m k = abort-keeps-field m (readField k) (omega arith) (λ z. omega arith) in
-        let time : subTime (abortTable w n) m k ≡ subTime w m k = abort-keeps-field m (subTimeField k) (omega arith) (λ z. omega arith) in
-        rw (entry, time, counter-kept h known) (s .reads h m k known begun (was-live m begun l) hk (rw entry at r))
+    reads-kept : ReadsFrom w (abortTable w n)
+    reads-kept h m k known begun l hk =
+        same-read w (abortTable w n) h m k (abort-keeps-field m (readField k) (omega arith) (λ z. omega arith))
+        (abort-keeps-field m (subTimeField k) (omega arith) (λ z. omega arith))
+
+    -- what becomes aborted was live, not committed
+    finals-kept : (m : ℕ) → isCommitted w m ≡ true → RowKept w (abortTable w n) m
+    finals-kept m did g inside =
+        abort-keeps-row m g (action-width g inside)
+        (λ given reached. live-uncommitted w m (and-left (isLive w m) _ reached) did)
+
+    ends-kept : (m : ℕ) → IsGiven w m → hasEnd (abortTable w n) m ≡ true → Ended w (abortTable w n) n m
+    ends-kept m h e = inl (sym (end-kept m h) ∙ e, abort-keeps-field m endField (omega arith) (λ z. omega arith))
 
     pub abort-line : (h : ℕ) → IsKind h → SameLine w (abortTable w n) h
     abort-line h known =
@@ -136,7 +144,11 @@ module _ (w : List ℕ) (n : ℕ) where
           wasLive = was-live;
           parentStays = parent-left;
           reads = reads-kept;
-          ends = λ m h e. inl (sym (end-kept m h) ∙ e, abort-keeps-field m endField (omega arith) (λ z. omega arith));
+          ends = ends-kept;
+          finals = λ m h. finals-kept m;
+          newests =
+              λ p k known account.
+              calm-newest counter-kept ends-kept p k (abort-keeps-field p (newestField k) (omega arith) (λ z. omega arith));
           pendings =
               λ m k h charge.
               sum-stays w (abortTable w n) m k (abort-keeps-field m (writeField k) (omega arith) (λ z. omega arith))

@@ -4,23 +4,23 @@ use native.Mathlib.Omega.{arith}
 use native.Mathlib.Decide.{ℕ-discrete}
 use mathlib.Core.Path.{_≡_, refl, sym, ap, _∙_}
 use mathlib.Core.Logic.{_⊎_, inl, inr, _≢_}
-use mathlib.Core.Bool.{Bool, true, false, cond}
+use mathlib.Core.Bool.{Bool, true, false, cond, not}
 use mathlib.Core.List.{List}
 use borrow.Author.Tests.{eq-eqb, ne-eqb, le-leb}
 use lib.Dec.{eqb}
 use lib.ListN.{length}
-use Rattle.rules.specs.Card.{accountCount, firstCharge, chargeCount, chargeAccounts, IsCharge}
+use Rattle.rules.specs.Card.{accountCount, accounts, firstCharge, chargeCount, chargeAccounts, IsCharge}
 use Rattle.rules.specs.Amount.{amountWord}
 use Rattle.rules.specs.Kind.{IsKind, topKind, kindUnder}
-use Rattle.rules.specs.Table.{width, tableLength, mostActions, committed, word, highestField, highest, counterField, counter, parentField, parentOf, kindOf, stateField, stateOf, withState, endField, endTime, withEndTime, readFields, readField, readEntry, hasRead, subTimeFields, subTimeField, subTime, readTime, writeField, writeEntry, entered, hasWritten, hasWrites, pendingField, pendingWord, ownAddsField, ownAddsWord, keptField, keptWord, keptAfter}
+use Rattle.rules.specs.Table.{width, tableLength, mostActions, committed, word, highestField, highest, counterField, counter, parentField, parentOf, kindOf, stateField, stateOf, withState, endField, endTime, withEndTime, readFields, readField, readEntry, hasRead, subTimeFields, subTimeField, subTime, readTime, writeField, writeEntry, entered, hasWritten, hasWrites, pendingField, pendingWord, ownAddsField, ownAddsWord, keptField, keptWord, keptAfter, newestFields, newestField, newest}
 use Rattle.rules.specs.Queue.{queueLengthField}
 use Rattle.rules.specs.Ledger.{Ledger}
-use Rattle.rules.specs.Commit.{copiedDown, commitTime, commitCounter, endTable, keepTable, passesRead, joinedWord, joinedRead, joinedTime, joinTable, committedUnder}
+use Rattle.rules.specs.Commit.{copiedDown, commitTime, commitCounter, endTable, keepTable, newestAfter, noteTable, passesRead, joinedWord, joinedRead, joinedTime, joinTable, committedUnder}
 use Rattle.rules.proofs.Laws.Words.{withWord-length, word-same, word-other-row, word-other-field, word-off-field}
 use Rattle.rules.proofs.Laws.Queue.{SameLine}
 use Rattle.rules.proofs.Laws.Kinds.{kind-known}
 use Rattle.rules.proofs.Laws.Fields.{withFields-length, withFields-other-row, withFields-off-field, withFields-same}
-use Rattle.rules.proofs.Laws.Sets.{IsNoSet, charge-within, withBothSets-length, withBothSets-other-row, withBothSets-other-field, withBothSets-read, withBothSets-time, withBothSets-write}
+use Rattle.rules.proofs.Laws.Sets.{IsNoSet, account-within, charge-within, withBothSets-length, withBothSets-other-row, withBothSets-other-field, withBothSets-read, withBothSets-time, withBothSets-write}
 use Rattle.rules.proofs.Copies.Turns.{IsNoSum, addedWord}
 use Rattle.rules.proofs.Copies.Between.{TableAt, table-between}
 use Rattle.rules.proofs.Copies.Whole.{copied-sum, copied-writes, copied-parent, copied-counter, copied-time}
@@ -102,6 +102,12 @@ module _ (w : List ℕ) (n p : ℕ) where
   keep-before m g near =
       withFields-off-field w p keptField firstCharge chargeCount _ m g (λ k r. omega arith) (omega arith) (λ k r z. omega arith)
 
+  -- .. and behind them
+  keep-behind : (m g : ℕ) → newestFields ≤ g → g < width → word (keepTable w n p) m g ≡ word w m g
+  unfolding keepTable chargeAccounts
+  keep-behind m g far inside =
+      withFields-off-field w p keptField firstCharge chargeCount _ m g (λ k r. omega arith) inside (λ k r z. omega arith)
+
   keep-same :
       length w ≡ tableLength → p ≤ mostActions →
       (k : ℕ) → IsCharge k → keptWord (keepTable w n p) p k ≡ amountWord (keptAfter w n p k)
@@ -109,6 +115,32 @@ module _ (w : List ℕ) (n p : ℕ) where
   keep-same long low k charge =
       withFields-same w p keptField firstCharge chargeCount _ long low k
       (charge-within charge) (omega arith) (λ x h ne z. ne (omega arith))
+
+-- ---- the newest end times, in any table
+
+module _ (w : List ℕ) (n p : ℕ) where
+  note-length : length (noteTable w n p) ≡ length w
+  unfolding noteTable accounts
+  note-length = withFields-length w p newestField 0 accountCount _
+
+  -- the rows of others
+  note-other-row : (m g : ℕ) → g < width → m ≢ p → word (noteTable w n p) m g ≡ word w m g
+  unfolding noteTable accounts
+  note-other-row m g h ne = withFields-other-row w p newestField 0 accountCount _ m g (λ k r. omega arith) h ne
+
+  -- what stands before them
+  note-before : (m g : ℕ) → g < newestFields → word (noteTable w n p) m g ≡ word w m g
+  unfolding noteTable accounts
+  note-before m g near =
+      withFields-off-field w p newestField 0 accountCount _ m g (λ k r. omega arith) (omega arith) (λ k r z. omega arith)
+
+  note-same :
+      length w ≡ tableLength → p ≤ mostActions →
+      (k : ℕ) → k < accountCount → newest (noteTable w n p) p k ≡ newestAfter w n p k
+  unfolding noteTable accounts
+  note-same long low k account =
+      withFields-same w p newestField 0 accountCount _ long low k
+      (account-within account) (omega arith) (λ x h ne z. ne (omega arith))
 
 -- ---- the joined words
 
@@ -134,7 +166,7 @@ module _ (w : List ℕ) (n p k : ℕ) where
 -- ---- the whole commit
 
 module _ (s : Ledger) (n p : ℕ) (one : 1 ≤ n) where
-  -- the table when the copies are made, when n has ended, and when its totals are kept
+  -- the table when the copies are made, when n has ended, when its totals are kept, and when its end is noted
   abbrev copied : List ℕ
   copied = copiedDown s n p 0 .table
 
@@ -143,6 +175,9 @@ module _ (s : Ledger) (n p : ℕ) (one : 1 ≤ n) where
 
   abbrev kept : List ℕ
   kept = keepTable ended n p
+
+  abbrev noted : List ℕ
+  noted = noteTable kept n p
 
   -- the copies change p's sums and nothing else
   by-copies : TableAt s n p 0 (copiedDown s n p 0)
@@ -154,39 +189,42 @@ module _ (s : Ledger) (n p : ℕ) (one : 1 ≤ n) where
   ended-field m g h ns nt (inr off) = end-keeps-field copied n m g h ns nt ∙ by-copies .sameField m g h off
 
   -- the sets that a parent gets change its reads and write entries alone
-  from-kept : (m g : ℕ) → g < width → (m ≢ p) ⊎ IsNoSet g → word (committedUnder s n p .table) m g ≡ word kept m g
+  from-noted : (m g : ℕ) → g < width → (m ≢ p) ⊎ IsNoSet g → word (committedUnder s n p .table) m g ≡ word noted m g
   unfolding committedUnder joinTable
-  from-kept m g h where′ = go (ℕ-discrete p 0)
+  from-noted m g h where′ = go (ℕ-discrete p 0)
     where
-      apart : (m ≢ p) ⊎ IsNoSet g → Dec (m ≡ p) → word (joinTable kept n p) m g ≡ word kept m g
-      apart (inl ne) d = withBothSets-other-row kept p _ _ _ m g h ne
-      apart (inr off) (yes e) = rw e (withBothSets-other-field kept p _ _ _ g off)
-      apart (inr off) (no ne) = withBothSets-other-row kept p _ _ _ m g h ne
+      apart : (m ≢ p) ⊎ IsNoSet g → Dec (m ≡ p) → word (joinTable noted n p) m g ≡ word noted m g
+      apart (inl ne) d = withBothSets-other-row noted p _ _ _ m g h ne
+      apart (inr off) (yes e) = rw e (withBothSets-other-field noted p _ _ _ g off)
+      apart (inr off) (no ne) = withBothSets-other-row noted p _ _ _ m g h ne
 
-      go : Dec (p ≡ 0) → word (committedUnder s n p .table) m g ≡ word kept m g
+      go : Dec (p ≡ 0) → word (committedUnder s n p .table) m g ≡ word noted m g
       go (yes e) = rw (eq-eqb p 0 e) refl
       go (no ne) = rw (ne-eqb p 0 ne) (apart where′ (ℕ-discrete m p))
 
-  -- a field of neither set that is no kept sum's
+  -- a field of neither set that is no kept sum's and no newest end time's
   abbrev IsUnjoined : ℕ → Type 0
   IsUnjoined g = (g < subTimeFields) × ((g < readFields) ⊎ (writeField accountCount ≤ g))
 
   -- so these and what is kept there change p's row alone
   joined-elsewhere : (m g : ℕ) → g < width → (m ≢ p) ⊎ IsUnjoined g → word (committedUnder s n p .table) m g ≡ word ended m g
-  joined-elsewhere m g h (inl ne) = from-kept m g h (inl ne) ∙ keep-other-row ended n p m g h ne
+  joined-elsewhere m g h (inl ne) =
+      from-noted m g h (inl ne) ∙ note-other-row kept n p m g h ne ∙ keep-other-row ended n p m g h ne
   joined-elsewhere m g h (inr (front, apart)) =
-      from-kept m g h (inr (apart, inl front)) ∙ keep-before ended n p m g (omega arith)
+      from-noted m g h (inr (apart, inl front))
+      ∙ note-before kept n p m g (omega arith)
+      ∙ keep-before ended n p m g (omega arith)
 
   pub commit-length : length (committedUnder s n p .table) ≡ length (s .table)
   unfolding committedUnder joinTable
   commit-length = go (ℕ-discrete p 0)
     where
-      kept-length : length kept ≡ length (s .table)
-      kept-length = keep-length ended n p ∙ end-length copied n ∙ by-copies .sameLength
+      noted-length : length noted ≡ length (s .table)
+      noted-length = note-length kept n p ∙ keep-length ended n p ∙ end-length copied n ∙ by-copies .sameLength
 
       go : Dec (p ≡ 0) → length (committedUnder s n p .table) ≡ length (s .table)
-      go (yes e) = rw (eq-eqb p 0 e) kept-length
-      go (no ne) = rw (ne-eqb p 0 ne) (withBothSets-length kept p _ _ _ ∙ kept-length)
+      go (yes e) = rw (eq-eqb p 0 e) noted-length
+      go (no ne) = rw (ne-eqb p 0 ne) (withBothSets-length noted p _ _ _ ∙ noted-length)
 
   pub commit-highest : highest (committedUnder s n p .table) ≡ highest (s .table)
   commit-highest =
@@ -239,7 +277,7 @@ module _ (s : Ledger) (n p : ℕ) (one : 1 ≤ n) where
       go : Dec (p ≡ 0) → word (committedUnder s n p .table) 0 g ≡ word (s .table) 0 g
       go (yes top) =
           rw (eq-eqb p 0 top)
-          (keep-before ended n p 0 g h ∙ ended-field 0 g (omega arith) (λ z. omega arith) (λ z. omega arith) (inr off))
+          (note-before kept n p 0 g (omega arith) ∙ keep-before ended n p 0 g h ∙ ended-field 0 g (omega arith) (λ z. omega arith) (λ z. omega arith) (inr off))
       go (no sub) = commit-keeps-others 0 (λ z. sub (sym z)) g high (omega arith)
 
   pub commit-line : (h : ℕ) → IsKind h → SameLine (s .table) (committedUnder s n p .table) h
@@ -263,6 +301,12 @@ module _ (s : Ledger) (n p : ℕ) (one : 1 ≤ n) where
       unmoved : (m g : ℕ) → ownAddsField firstCharge ≤ g → g < width → word ended m g ≡ word (s .table) m g
       unmoved m g far h = ended-field m g h (λ z. omega arith) (λ z. omega arith) (inr (inr (omega arith)))
 
+  -- n has the parent that it had when its end is noted
+  pub parent-kept : parentOf (keepTable (endTable (copiedDown s n p 0 .table) n) n p) n ≡ parentOf (s .table) n
+  parent-kept =
+      keep-before ended n p n parentField (omega arith)
+      ∙ ended-field n parentField (omega arith) (λ z. omega arith) (λ z. omega arith) (inr (inl (omega arith)))
+
   -- the end doesn't touch p's sums, nor do the kept sums and the sets that it gets
   pub commit-sum-copied :
       (k : ℕ) → IsCharge k → pendingWord (committedUnder s n p .table) p k ≡ pendingWord copied p k
@@ -282,9 +326,43 @@ module _ (s : Ledger) (n p : ℕ) (one : 1 ≤ n) where
         p ≤ mostActions → (k : ℕ) → IsCharge k →
         keptWord (committedUnder s n p .table) p k ≡ amountWord (keptAfter (s .table) n p k)
     commit-kept low k charge =
-        from-kept p (keptField k) (omega arith) (inr (inr (omega arith), inr (omega arith)))
+        from-noted p (keptField k) (omega arith) (inr (inr (omega arith), inr (omega arith)))
+        ∙ note-before kept n p p (keptField k) (omega arith)
         ∙ keep-same ended n p ended-long low k charge
         ∙ ap amountWord (kept-after-end k charge)
+
+    kept-long : length kept ≡ tableLength
+    kept-long = keep-length ended n p ∙ ended-long
+
+    -- .. and n's end time is the newest there for each account that n has written, while the others stay
+    module _ (low : p ≤ mostActions) (apart : n ≢ p) (k : ℕ) (account : k < accountCount) where
+      newest-noted : newest (committedUnder s n p .table) p k ≡ newestAfter kept n p k
+      newest-noted =
+          from-noted p (newestField k) (omega arith) (inr (inr (omega arith), inr (omega arith)))
+          ∙ note-same kept n p kept-long low k account
+
+      wrote-as-before : hasWritten kept n k ≡ hasWritten (s .table) n k
+      wrote-as-before =
+          ap (λ entry. not (eqb entry 0))
+          (keep-other-row ended n p n (writeField k) (omega arith) apart
+          ∙ ended-field n (writeField k) (omega arith) (λ z. omega arith) (λ z. omega arith) (inl apart))
+
+      pub commit-noted :
+          hasWritten (s .table) n k ≡ true → newest (committedUnder s n p .table) p k ≡ commitTime (s .table) n
+      commit-noted wrote =
+          newest-noted
+          ∙ ap (λ b. cond b (endTime kept n) (newest kept p k)) (wrote-as-before ∙ wrote)
+          ∙ keep-other-row ended n p n endField (omega arith) apart
+          ∙ end-time copied n copied-long one few
+          ∙ copied-time s n p
+
+      pub commit-unnoted :
+          hasWritten (s .table) n k ≡ false → newest (committedUnder s n p .table) p k ≡ newest (s .table) p k
+      commit-unnoted none =
+          newest-noted
+          ∙ ap (λ b. cond b (endTime kept n) (newest kept p k)) (wrote-as-before ∙ none)
+          ∙ keep-behind ended n p p (newestField k) (omega arith) (omega arith)
+          ∙ ended-field p (newestField k) (omega arith) (λ z. omega arith) (λ z. omega arith) (inr (inr (omega arith)))
 
     -- the counter of n's kind, and the other
     pub commit-counter : counter (committedUnder s n p .table) (kindOf (s .table) n) ≡ commitCounter (s .table) n
@@ -317,29 +395,29 @@ module _ (s : Ledger) (n p : ℕ) (one : 1 ≤ n) where
 
     -- a parent that is an action gets both unions and the sums
     module _ (action : 1 ≤ p) (low : p ≤ mostActions) where
-      joined : committedUnder s n p .table ≡ joinTable kept n p
+      joined : committedUnder s n p .table ≡ joinTable noted n p
       unfolding committedUnder
       joined = rw (ne-eqb p 0 (λ z. omega arith))
 
-      kept-long : length kept ≡ tableLength
-      kept-long = keep-length ended n p ∙ ended-long
+      noted-long : length noted ≡ tableLength
+      noted-long = note-length kept n p ∙ kept-long
 
       -- the words of both for the account are as they were, and so is whatever is made of them
       entry-kept :
-          (m g : ℕ) → readFields ≤ g → g < keptField firstCharge → IsNoSum g → word kept m g ≡ word (s .table) m g
+          (m g : ℕ) → readFields ≤ g → g < keptField firstCharge → IsNoSum g → word noted m g ≡ word (s .table) m g
       entry-kept m g high h off =
-          keep-before ended n p m g h ∙ ended-field m g (omega arith) (λ z. omega arith) (λ z. omega arith) (inr off)
+          note-before kept n p m g (omega arith) ∙ keep-before ended n p m g h ∙ ended-field m g (omega arith) (λ z. omega arith) (λ z. omega arith) (inr off)
 
-      set-kept : (m g : ℕ) → readFields ≤ g → g < writeField accountCount → word kept m g ≡ word (s .table) m g
+      set-kept : (m g : ℕ) → readFields ≤ g → g < writeField accountCount → word noted m g ≡ word (s .table) m g
       set-kept m g high h = entry-kept m g high (omega arith) (inl (omega arith))
 
-      time-kept : (m k : ℕ) → k < accountCount → subTime kept m k ≡ subTime (s .table) m k
+      time-kept : (m k : ℕ) → k < accountCount → subTime noted m k ≡ subTime (s .table) m k
       time-kept m k hk = entry-kept m (subTimeField k) (omega arith) (omega arith) (inr (omega arith))
 
       joined-reads-kept :
           (k : ℕ) → k < accountCount →
-          (writeEntry kept n k ≡ writeEntry (s .table) n k) × (writeEntry kept p k ≡ writeEntry (s .table) p k)
-          × (joinedRead kept n p k ≡ joinedRead (s .table) n p k) × (joinedTime kept n p k ≡ joinedTime (s .table) n p k)
+          (writeEntry noted n k ≡ writeEntry (s .table) n k) × (writeEntry noted p k ≡ writeEntry (s .table) p k)
+          × (joinedRead noted n p k ≡ joinedRead (s .table) n p k) × (joinedTime noted n p k ≡ joinedTime (s .table) n p k)
       joined-reads-kept k hk =
           rw (
             set-kept n (readField k) (omega arith) (omega arith),
@@ -356,14 +434,14 @@ module _ (s : Ledger) (n p : ℕ) (one : 1 ≤ n) where
       unfolding joinTable
       commit-read k hk =
           ap (λ t. readEntry t p k) joined
-          ∙ withBothSets-read kept p _ _ _ kept-long low k hk
+          ∙ withBothSets-read noted p _ _ _ noted-long low k hk
           ∙ joined-reads-kept k hk .2
 
       commit-time : (k : ℕ) → k < accountCount → subTime (committedUnder s n p .table) p k ≡ joinedTime (s .table) n p k
       unfolding joinTable
       commit-time k hk =
           ap (λ t. subTime t p k) joined
-          ∙ withBothSets-time kept p _ _ _ kept-long low k hk
+          ∙ withBothSets-time noted p _ _ _ noted-long low k hk
           ∙ joined-reads-kept k hk .3
 
       -- RULES 4.5: of either kind the parent's time is joined from the two times of that kind
@@ -380,7 +458,7 @@ module _ (s : Ledger) (n p : ℕ) (one : 1 ≤ n) where
       unfolding joinTable
       commit-write k hk =
           ap (λ t. writeEntry t p k) joined
-          ∙ withBothSets-write kept p _ _ _ kept-long low k hk
+          ∙ withBothSets-write noted p _ _ _ noted-long low k hk
           ∙ rw (set-kept n (writeField k) (omega arith) (omega arith), set-kept p (writeField k) (omega arith) (omega arith)) refl
 
       pub commit-pending :

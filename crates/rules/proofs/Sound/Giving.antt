@@ -11,18 +11,18 @@ use borrow.Author.Tests.{eqb-true}
 use lib.ListN.{length}
 use Rattle.rules.specs.Card.{accountCount, IsCharge}
 use Rattle.rules.specs.Kind.{IsKind}
-use Rattle.rules.specs.Table.{entryFields, subTimeFields, subTime, width, tableLength, mostActions, live, word, highestField, highest, withHighest, counterField, counter, parentField, parentOf, withParent, stateField, stateOf, withState, endField, endTime, withEndTime, readEntry, writeEntry, pendingWord, ownAddsField, ownAddsWord, withoutAdds, keptField, keptWord, withoutKept, actions, isChildOf}
+use Rattle.rules.specs.Table.{entryFields, subTimeFields, subTime, width, tableLength, mostActions, live, word, highestField, highest, withHighest, counterField, counter, parentField, parentOf, withParent, stateField, stateOf, withState, endField, endTime, withEndTime, readEntry, writeEntry, pendingWord, ownAddsField, ownAddsWord, withoutAdds, keptField, keptWord, withoutKept, newestField, newest, withoutNewest, actions, isChildOf}
 use Rattle.rules.specs.Queue.{queueLengthField}
 use Rattle.rules.specs.Sound.{IsGiven}
 use Rattle.rules.specs.Step.{orphaned, giveTable}
 use Rattle.rules.proofs.Laws.RowPass.{pass-length, pass-other-field, pass-other-row, pass-field}
 use Rattle.rules.proofs.Laws.Words.{withWord-length, word-same, word-other-row, word-other-field}
 use Rattle.rules.proofs.Laws.Queue.{SameLine}
-use Rattle.rules.proofs.Laws.Sets.{withSets-length, withSets-other-row, withSets-other-field, withSets-read, withSets-time, withSets-write, withSets-pending, withSets-behind, withoutAdds-length, withoutAdds-other-row, withoutAdds-other-field, withoutAdds-behind, withoutAdds-same, withoutKept-length, withoutKept-other-row, withoutKept-before, withoutKept-same}
+use Rattle.rules.proofs.Laws.Sets.{withSets-length, withSets-other-row, withSets-other-field, withSets-read, withSets-time, withSets-write, withSets-pending, withSets-behind, withoutAdds-length, withoutAdds-other-row, withoutAdds-other-field, withoutAdds-behind, withoutAdds-same, withoutKept-length, withoutKept-other-row, withoutKept-before, withoutKept-same, withoutNewest-length, withoutNewest-other-row, withoutNewest-before, withoutNewest-same}
 
 module _ (w : List ℕ) (n p : ℕ) where
   -- the table when the earlier holder's children are nobody's, then with the highest number, the parent, the state and the end
-  -- time put in, without own adds and without kept sums; the sets and the pending sums come last
+  -- time put in, without own adds, without kept sums and without newest end times; the sets and the pending sums come last
   abbrev freed : List ℕ
   freed = orphaned w n
 
@@ -41,8 +41,11 @@ module _ (w : List ℕ) (n p : ℕ) where
   abbrev addless : List ℕ
   addless = withoutAdds timed n
 
+  abbrev keptless : List ℕ
+  keptless = withoutKept addless n
+
   abbrev filled : List ℕ
-  filled = withoutKept addless n
+  filled = withoutNewest keptless n
 
   freed-length : length freed ≡ length w
   unfolding orphaned actions
@@ -50,7 +53,7 @@ module _ (w : List ℕ) (n p : ℕ) where
 
   filled-length : length filled ≡ length freed
   filled-length =
-      withoutKept-length addless n ∙ withoutAdds-length timed n ∙ withWord-length stated n endField 0 ∙ withWord-length parented n stateField live ∙ withWord-length headed n parentField p ∙ withWord-length freed 0 highestField _
+      withoutNewest-length keptless n ∙ withoutKept-length addless n ∙ withoutAdds-length timed n ∙ withWord-length stated n endField 0 ∙ withWord-length parented n stateField live ∙ withWord-length headed n parentField p ∙ withWord-length freed 0 highestField _
 
   pub give-length : length (giveTable w n p) ≡ length w
   unfolding giveTable
@@ -61,6 +64,7 @@ module _ (w : List ℕ) (n p : ℕ) where
   unfolding giveTable
   row-from m g h one ne =
       withSets-other-row filled n _ _ _ _ m g h ne
+      ∙ withoutNewest-other-row keptless n m g h ne
       ∙ withoutKept-other-row addless n m g h ne
       ∙ withoutAdds-other-row timed n m g h ne
       ∙ word-other-row stated n m endField g 0 (omega arith) h ne
@@ -88,6 +92,7 @@ module _ (w : List ℕ) (n p : ℕ) where
   unfolding giveTable
   head-from g one h =
       withSets-other-row filled n _ _ _ _ 0 g h (λ z. omega arith)
+      ∙ withoutNewest-other-row keptless n 0 g h (λ z. omega arith)
       ∙ withoutKept-other-row addless n 0 g h (λ z. omega arith)
       ∙ withoutAdds-other-row timed n 0 g h (λ z. omega arith)
       ∙ word-other-row stated n 0 endField g 0 (omega arith) h (λ z. omega arith)
@@ -114,6 +119,7 @@ module _ (w : List ℕ) (n p : ℕ) where
       go (yes e) =
           rw e
           (withSets-behind filled n _ _ _ _ g (omega arith) (inl near)
+          ∙ withoutNewest-before keptless n g (omega arith)
           ∙ withoutKept-before addless n g (omega arith)
           ∙ withoutAdds-behind timed n g far
           ∙ word-other-field stated n endField g 0 (λ z. omega arith)
@@ -162,6 +168,7 @@ module _ (w : List ℕ) (n p : ℕ) where
     unfolding giveTable
     give-parent =
         withSets-other-field filled n _ _ _ _ parentField (omega arith)
+        ∙ withoutNewest-before keptless n parentField (omega arith)
         ∙ withoutKept-before addless n parentField (omega arith)
         ∙ withoutAdds-other-field timed n parentField (omega arith)
         ∙ word-other-field stated n endField parentField 0 (λ z. omega arith)
@@ -172,6 +179,7 @@ module _ (w : List ℕ) (n p : ℕ) where
     unfolding giveTable
     give-state =
         withSets-other-field filled n _ _ _ _ stateField (omega arith)
+        ∙ withoutNewest-before keptless n stateField (omega arith)
         ∙ withoutKept-before addless n stateField (omega arith)
         ∙ withoutAdds-other-field timed n stateField (omega arith)
         ∙ word-other-field stated n endField stateField 0 (λ z. omega arith)
@@ -181,6 +189,7 @@ module _ (w : List ℕ) (n p : ℕ) where
     unfolding giveTable
     give-end =
         withSets-other-field filled n _ _ _ _ endField (omega arith)
+        ∙ withoutNewest-before keptless n endField (omega arith)
         ∙ withoutKept-before addless n endField (omega arith)
         ∙ withoutAdds-other-field timed n endField (omega arith)
         ∙ word-same stated n endField 0 stated-long few (omega arith)
@@ -208,6 +217,7 @@ module _ (w : List ℕ) (n p : ℕ) where
     unfolding giveTable
     give-own-adds k charge =
         withSets-behind filled n _ _ _ _ (ownAddsField k) (omega arith) (inl (omega arith))
+        ∙ withoutNewest-before keptless n (ownAddsField k) (omega arith)
         ∙ withoutKept-before addless n (ownAddsField k) (omega arith)
         ∙ withoutAdds-same timed n timed-long few k charge
 
@@ -215,4 +225,11 @@ module _ (w : List ℕ) (n p : ℕ) where
     unfolding giveTable
     give-kept k charge =
         withSets-behind filled n _ _ _ _ (keptField k) (omega arith) (inr (omega arith))
+        ∙ withoutNewest-before keptless n (keptField k) (omega arith)
         ∙ withoutKept-same addless n (withoutAdds-length timed n ∙ timed-long) few k charge
+
+    pub give-newest : (k : ℕ) → k < accountCount → newest (giveTable w n p) n k ≡ 0
+    unfolding giveTable
+    give-newest k account =
+        withSets-behind filled n _ _ _ _ (newestField k) (omega arith) (inr (omega arith))
+        ∙ withoutNewest-same keptless n (withoutKept-length addless n ∙ withoutAdds-length timed n ∙ timed-long) few k account

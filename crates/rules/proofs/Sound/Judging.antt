@@ -2,16 +2,16 @@
 use Prim.Native.Nat.{ℕ, suc, _+_, _≤_, _<_, min}
 use native.Mathlib.Omega.{arith}
 use native.Mathlib.Decide.{ℕ-discrete}
-use native.Mathlib.Nat.{le-of-eq, le-trans}
+use native.Mathlib.Nat.{le-of-eq}
 use mathlib.Core.Path.{_≡_, refl, sym, ap, _∙_}
 use mathlib.Core.Logic.{_⊎_, inl, inr, ⊎-elim, _≢_}
 use mathlib.Core.Bool.{Bool, true, false, not, cond}
 use mathlib.Core.List.{List}
-use borrow.Author.Tests.{eqb-true}
-use lib.Dec.{eqb}
-use Rattle.rules.specs.Card.{accountCount, IsCharge}
+use borrow.Author.Tests.{eqb-true, leb-true, leb-false, eq-eqb}
+use lib.Dec.{eqb, leb}
+use Rattle.rules.specs.Card.{accountCount, IsCharge, accounts}
 use Rattle.rules.specs.Kind.{IsKind}
-use Rattle.rules.specs.Table.{hasEnd, width, mostActions, live, committed, aborted, word, highestField, highest, counterField, counter, lastTime, parentField, parentOf, kindOf, stateField, stateOf, withState, endField, endTime, readField, readEntry, hasRead, subTimeField, subTime, readTime, writeField, writeEntry, entered, hasWritten, hasWrites, pendingField, pendingWord, isLive, isCommitted}
+use Rattle.rules.specs.Table.{hasEnd, width, mostActions, live, committed, aborted, word, highestField, highest, counterField, counter, lastTime, parentField, parentOf, kindOf, stateField, stateOf, withState, endField, endTime, readField, readEntry, hasRead, subTimeField, readTime, writeField, writeEntry, entered, hasWritten, hasWrites, pendingField, pendingWord, isLive, isCommitted, isRecordOf, newest, newestField, isChildOf}
 use Rattle.rules.specs.Queue.{queueLengthField, queueLength, isQueued}
 use Rattle.rules.specs.Sound.{hasState, IsGiven, Sound}
 use Rattle.rules.specs.Ledger.{Ledger}
@@ -19,11 +19,12 @@ use Rattle.rules.specs.Commit.{commitTime, commitCounter, passesRead, jo
 use Rattle.rules.proofs.Laws.Tests.{and-left, and-right, and-both, test, not-both, false-of-not-true}
 use Rattle.rules.proofs.Laws.Permitted.{Committable, no-live-child, not-own-parent}
 use Rattle.rules.proofs.Laws.Words.{withWord-length, word-same, word-other-row, word-off-field}
+use Rattle.rules.proofs.Laws.Ranges.{any-at}
 use Rattle.rules.proofs.Laws.Kinds.{unqueued-in}
 use Rattle.rules.proofs.Laws.Queue.{SameLine}
 use Rattle.rules.proofs.Copies.Turns.{addedWord}
-use Rattle.rules.proofs.Sound.TableChanges.{ReadsInTime, Bounded, bounds-stay, TableChange, Ended, SumStays, sum-stays, line-stays, writes-agree, live-uncommitted}
-use Rattle.rules.proofs.Sound.Committing.{commit-length, commit-highest, commit-parent, commit-keeps-row, commit-keeps-sets, commit-keeps-others, commit-line, commit-counter, commit-other-counter, commit-state, commit-end, commit-read, commit-read-time, commit-write, commit-pending}
+use Rattle.rules.proofs.Sound.TableChanges.{ReadsFrom, Bounded, bounds-stay, TableChange, Ended, SumStays, sum-stays, line-stays, writes-agree, live-uncommitted, same-read, RowKept, calm-newest, ReadFrom, NewestStays, action-width, child's, NewestNow, own}
+use Rattle.rules.proofs.Sound.Committing.{commit-length, commit-highest, commit-parent, commit-keeps-row, commit-keeps-sets, commit-keeps-others, commit-line, commit-counter, commit-other-counter, commit-state, commit-end, commit-read, commit-read-time, commit-write, commit-pending, commit-noted, commit-unnoted}
 
 -- ---- one action finishes: what its state alone gives of a change
 
@@ -98,12 +99,19 @@ module _ (w : List ℕ) (s : Sound w) (n : ℕ) (j : Committable w n) where
   fail-counter : (h : ℕ) → IsKind h → counter failed h ≡ counter w h
   fail-counter h known = fail-head (counterField h) (omega arith)
 
-  fail-reads : ReadsInTime w failed
-  fail-reads h m k known begun l hk r =
-      let entry : readEntry failed m k ≡ readEntry w m k = fail-keeps-field m (readField k) (omega arith) (λ z. omega arith) in
-      let time : subTime failed m k ≡ subTime w m k = fail-keeps-field m (subTimeField k) (omega arith) (λ z. omega arith) in
-      rw (entry, time, fail-counter h known)
-      (s .reads h m k known begun (was-live w failed n j (inr fail-state) fail-others m begun l) hk (rw entry at r))
+  fail-reads : ReadsFrom w failed
+  fail-reads h m k known begun l hk =
+      same-read w failed h m k (fail-keeps-field m (readField k) (omega arith) (λ z. omega arith))
+      (fail-keeps-field m (subTimeField k) (omega arith) (λ z. omega arith))
+
+  fail-ends : (m : ℕ) → IsGiven w m → hasEnd failed m ≡ true → Ended w failed n m
+  fail-ends m h e = inl (fail-end m h e, fail-keeps-field m endField (omega arith) (λ z. omega arith))
+
+  -- the action that failed was live, not committed
+  fail-finals : (m : ℕ) → isCommitted w m ≡ true → RowKept w failed m
+  fail-finals m did g inside =
+      word-other-row w n m stateField g aborted (omega arith) (action-width g inside)
+      (λ same. live-uncommitted w n (j .alive) (rw same at did))
 
   pub fail-line : (h : ℕ) → IsKind h → SameLine w (withState w n aborted) h
   fail-line h known =
@@ -124,7 +132,11 @@ module _ (w : List ℕ) (s : Sound w) (n : ℕ) (j : Committable w n) where
         wasLive = was-live w failed n j (inr fail-state) fail-others;
         parentStays = parent-stays w failed n j (inr fail-state) fail-others;
         reads = fail-reads;
-        ends = λ m h e. inl (fail-end m h e, fail-keeps-field m endField (omega arith) (λ z. omega arith));
+        ends = fail-ends;
+        finals = λ m h. fail-finals m;
+        newests =
+            λ p k known account.
+            calm-newest fail-counter fail-ends p k (fail-keeps-field p (newestField k) (omega arith) (λ z. omega arith));
         pendings =
             λ m k h charge.
             sum-stays w failed m k (fail-keeps-field m (writeField k) (omega arith) (λ z. omega arith))
@@ -139,20 +151,6 @@ module _ (w : List ℕ) (s : Sound w) (n : ℕ) (j : Committable w n) where
       }
 
 -- ---- a commit that passes
-
--- the parent's time after a join is one of the two that were there, if the parent has read the account then
-joined-bound :
-    (w : List ℕ) (n p k child parent c : ℕ) → (hasRead w n k ≡ true → child ≤ c) → (hasRead w p k ≡ true → parent ≤ c) →
-    not (eqb (joinedRead w n p k) 0) ≡ true → joinedWord w n p k child parent ≤ c
-joined-bound w n p k child parent c own above = go (passesRead w n p k) (hasRead w p k) refl refl
-  where
-    go :
-        (passes both : Bool) → passesRead w n p k ≡ passes → hasRead w p k ≡ both →
-        not (eqb (cond passes (cond both (min (readEntry w n k) (readEntry w p k)) (readEntry w n k)) (readEntry w p k)) 0) ≡ true →
-        cond passes (cond both (min child parent) child) parent ≤ c
-    go true true q r is = omega (arith, above r)
-    go true false q r is = own (and-left (hasRead w n k) _ q)
-    go false both q r is = above is
 
 module _ (ledger : Ledger) (s : Sound (ledger .table)) (n : ℕ) (j : Committable (ledger .table) n) where
   abbrev w : List ℕ
@@ -206,6 +204,18 @@ module _ (ledger : Ledger) (s : Sound (ledger .table)) (n : ℕ) (j : Committabl
   pass-parent : (m : ℕ) → parentOf passed m ≡ parentOf w m
   pass-parent = commit-parent ledger n parent (j .own .0)
 
+  record-parent : (p : ℕ) → isRecordOf passed p n ≡ true → parentOf passed n ≡ p
+  unfolding isRecordOf
+  record-parent p is = eqb-true _ _ (and-left (isChildOf passed p n) (hasEnd passed n) is)
+
+  parent-noted : (k : ℕ) → k < accountCount → hasWritten w n k ≡ true → newest passed parent k ≡ commitTime w n
+  parent-noted =
+      commit-noted ledger n parent (j .own .0) (s .long) n-few (omega (arith, parent-given, s .few)) (λ z. not-own-parent j (sym z))
+
+  parent-unnoted : (k : ℕ) → k < accountCount → hasWritten w n k ≡ false → newest passed parent k ≡ newest w parent k
+  parent-unnoted =
+      commit-unnoted ledger n parent (j .own .0) (s .long) n-few (omega (arith, parent-given, s .few)) (λ z. not-own-parent j (sym z))
+
   -- there was time left for it
   pass-bounded : Bounded passed
   pass-bounded h known = rw (commit-line ledger n parent (j .own .0) h known .sameLength) (go (ℕ-discrete h kind))
@@ -246,37 +256,121 @@ module _ (ledger : Ledger) (s : Sound (ledger .table)) (n : ℕ) (j : Committabl
       go (yes z) = rw z (own-end (rw z at e))
       go (no ne) = other-end m h ne e
 
-  -- a read that was there has a time of each kind within that kind's counter now
-  old-time :
-      (h m k : ℕ) → IsKind h → IsGiven w m → isLive w m ≡ true → k < accountCount → hasRead w m k ≡ true →
-      readTime w h m k ≤ counter passed h
-  old-time h m k known begun l hk r = le-trans (s .reads h m k known begun l hk r) (pass-rising h known)
+  -- a read of the parent's is the parent's or the child's: each time is one of the two that were there
+  parent-from : (h k : ℕ) → 1 ≤ parent → k < accountCount → hasRead passed parent k ≡ true → ReadFrom w passed h parent k
+  parent-from h k pos hk has = by-pass (passesRead w n parent k) refl (hasRead w parent k) refl
+    where
+      few : parent ≤ mostActions
+      few = omega (arith, parent-given, s .few)
 
-  pass-reads : ReadsInTime w passed
-  pass-reads h m k known begun l hk r = go (ℕ-discrete m parent)
+      entry : readEntry passed parent k ≡ joinedRead w n parent k
+      entry = commit-read ledger n parent (j .own .0) (s .long) n-few pos few k hk
+
+      time : readTime passed h parent k ≡ joinedWord w n parent k (readTime w h n k) (readTime w h parent k)
+      time = commit-read-time ledger n parent (j .own .0) (s .long) n-few pos few h k hk
+
+      of-child : hasRead w n k ≡ true → readTime passed h parent k ≡ readTime w h n k → ReadFrom w passed h parent k
+      of-child = child's n (j .own, j .alive) refl
+
+      by-pass :
+          (passes : Bool) → passesRead w n parent k ≡ passes → (both : Bool) → hasRead w parent k ≡ both →
+          ReadFrom w passed h parent k
+      by-pass true passes true read =
+          let smaller : readTime passed h parent k ≡ min (readTime w h n k) (readTime w h parent k) = rw (passes, read) at time in
+          ⊎-elim
+          (λ less.
+          of-child (and-left (hasRead w n k) _ passes)
+          (omega (arith, smaller, leb-true (readTime w h n k) (readTime w h parent k) less)))
+          (λ more. own read (omega (arith, smaller, leb-false (readTime w h n k) (readTime w h parent k) more)))
+          (test (leb (readTime w h n k) (readTime w h parent k)))
+      by-pass true passes false unread = of-child (and-left (hasRead w n k) _ passes) (rw (passes, unread) at time)
+      by-pass false stays both is = own (rw (rw stays at entry) at has) (rw stays at time)
+
+  pass-reads : ReadsFrom w passed
+  pass-reads h m k known begun l hk has = go (ℕ-discrete m parent)
     where
       other : m ≢ n
       other = still-live-other w passed n j (inl pass-state) pass-others m l
 
-      was : isLive w m ≡ true
-      was = was-live w passed n j (inl pass-state) pass-others m begun l
-
-      go : Dec (m ≡ parent) → readTime passed h m k ≤ counter passed h
-      go (yes z) =
-          let pos : 1 ≤ parent = rw z at (begun .0) in
-          let few : parent ≤ mostActions = omega (arith, parent-given, s .few) in
-          let entry = commit-read ledger n parent (j .own .0) (s .long) n-few pos few k hk in
-          rw (z, commit-read-time ledger n parent (j .own .0) (s .long) n-few pos few h k hk)
-          (joined-bound w n parent k (readTime w h n k) (readTime w h parent k) (counter passed h)
-          (old-time h n k known (j .own) (j .alive) hk)
-          (old-time h parent k known (pos, parent-given) (parent-live pos) hk)
-          (rw (z, entry) at r))
+      go : Dec (m ≡ parent) → ReadFrom w passed h m k
+      go (yes z) = rw z (parent-from h k (rw z at (begun .0)) hk (rw z at has))
       go (no ne) =
-          let entry : readEntry passed m k ≡ readEntry w m k =
-          commit-keeps-row ledger n parent (j .own .0) m (readField k) (omega arith) (begun .0) other (inl ne) in
-          let time : subTime passed m k ≡ subTime w m k =
-          commit-keeps-row ledger n parent (j .own .0) m (subTimeField k) (omega arith) (begun .0) other (inl ne) in
-          rw (entry, time) (old-time h m k known begun was hk (rw entry at r))
+          same-read w passed h m k
+          (commit-keeps-row ledger n parent (j .own .0) m (readField k) (omega arith) (begun .0) other (inl ne))
+          (commit-keeps-row ledger n parent (j .own .0) m (subTimeField k) (omega arith) (begun .0) other (inl ne))
+          has
+
+  -- a committed action isn't the one that commits, nor its parent, which is the store or live
+  pass-finals : (m : ℕ) → IsGiven w m → isCommitted w m ≡ true → RowKept w passed m
+  pass-finals m begun did g inside =
+      commit-keeps-row ledger n parent (j .own .0) m g (action-width g inside) (begun .0)
+      (λ same. live-uncommitted w n (j .alive) (rw same at did))
+      (inl (λ same. live-uncommitted w m (rw same (parent-live (rw same at (begun .0)))) did))
+
+  -- ---- the newest end times
+
+  own-written : (k : ℕ) → k < accountCount → hasWritten passed n k ≡ hasWritten w n k
+  own-written k hk =
+      ap (λ x. not (eqb x 0))
+      (commit-keeps-sets ledger n parent (j .own .0) (λ z. not-own-parent j (sym z)) (writeField k) (omega arith) (omega arith))
+
+  -- a record that had not committed is the one that commits
+  new-record : (p m : ℕ) → IsGiven w m → isRecordOf passed p m ≡ true → m ≢ n → isCommitted w m ≡ true
+  unfolding isRecordOf
+  new-record p m begun is other =
+      rw (pass-others m (begun .0) other) at
+      (and-left (isCommitted passed m) (hasWrites passed m) (and-right (isChildOf passed p m) (hasEnd passed m) is))
+
+  -- where n has not written k, or isn't p's child, p's records with k are those that there were
+  stays :
+      (p k : ℕ) → newest passed p k ≡ newest w p k → (isRecordOf passed p n ≡ true → hasWritten passed n k ≡ true → ⊥) →
+      NewestStays w passed p k
+  stays p k same none = (
+    same,
+    λ m begun is written.
+        by-number m begun is written (ℕ-discrete m n),
+  )
+    where
+      by-number :
+          (m : ℕ) → IsGiven w m → isRecordOf passed p m ≡ true → hasWritten passed m k ≡ true → Dec (m ≡ n) →
+          isCommitted w m ≡ true
+      by-number m begun is written (yes e) = absurd (none (rw e at is) (rw e at written))
+      by-number m begun is written (no other) = new-record p m begun is other
+
+  -- .. and where it is and has, its end time is the newest
+  noted-now : (k : ℕ) → k < accountCount → hasWritten w n k ≡ true → NewestNow w passed parent k
+  unfolding isRecordOf commitTime commitCounter hasWrites accounts
+  noted-now k hk wrote =
+      let writes : hasWrites w n ≡ true = any-at (hasWritten w n) 0 accountCount k (omega arith) wrote in
+      let ended : endTime passed n ≡ commitTime w n = commit-end ledger n parent (j .own .0) (s .long) n-few in
+      record {
+        holder = n;
+        begun = j .own;
+        isRecord =
+            and-both (eq-eqb _ _ (pass-parent n))
+            (and-both (eq-eqb _ _ pass-state)
+            (writes-agree w passed n (λ i hi. commit-keeps-sets ledger n parent (j .own .0) (λ z. not-own-parent j (sym z)) (writeField i) (omega arith) (omega arith)) ∙ writes));
+        written = own-written k hk ∙ wrote;
+        noted = parent-noted k hk wrote ∙ sym ended;
+        late = rw (ended, writes) (omega arith);
+        inTime = rw (ended, pass-counter, writes) (omega arith);
+      }
+
+  pass-newests : (p k : ℕ) → p ≤ highest w → k < accountCount → NewestStays w passed p k ⊎ NewestNow w passed p k
+  pass-newests p k known hk = by-parent (ℕ-discrete p parent) (hasWritten w n k) refl
+    where
+      by-parent :
+          Dec (p ≡ parent) → (b : Bool) → hasWritten w n k ≡ b → NewestStays w passed p k ⊎ NewestNow w passed p k
+      by-parent (yes e) true wrote = inr (rw e (noted-now k hk wrote))
+      by-parent (yes e) false none =
+          inl
+          (rw e
+          (stays parent k (parent-unnoted k hk none) (λ _ written. not-both written (own-written k hk ∙ none))))
+      by-parent (no other) b _ =
+          inl
+          (stays p k
+          (commit-keeps-others ledger n parent (j .own .0) p other (newestField k) (omega arith) (omega arith))
+          (λ is _. other (sym (record-parent p is) ∙ pass-parent n)))
 
   -- an account that n has written enters the parent's write set; any other keeps its entry and its sum there
   parent-sums : 1 ≤ parent → (k : ℕ) → IsCharge k → SumStays w passed parent k
@@ -317,6 +411,8 @@ module _ (ledger : Ledger) (s : Sound (ledger .table)) (n : ℕ) (j : Committabl
         parentStays = parent-stays w passed n j (inl pass-state) pass-others;
         reads = pass-reads;
         ends = pass-end;
+        finals = pass-finals;
+        newests = pass-newests;
         pendings = pass-sums;
         lines =
             λ h known.

@@ -5,12 +5,12 @@ use mathlib.Core.Path.{_≡_, refl, _∙_}
 use mathlib.Core.Bool.{Bool, true, false}
 use mathlib.Core.List.{List, []}
 use Rattle.rules.specs.Range.{upFrom, all}
-use Rattle.rules.specs.Card.{IsCharge}
-use Rattle.rules.specs.Table.{word, newTable, kindOf, parentOf, actions}
-use Rattle.rules.specs.Kind.{kinds}
+use Rattle.rules.specs.Card.{IsCharge, accounts}
+use Rattle.rules.specs.Table.{word, newTable, kindOf, parentOf, actions, parents}
+use Rattle.rules.specs.Kind.{kinds, kindUnder}
 use Rattle.rules.specs.Free.{nextNumber}
 use Rattle.rules.specs.Queue.{queue, isQueued, withoutBelow}
-use Rattle.rules.specs.Sound.{isBounded, areDistinct, queueNumbers, isSoundQueue, sound, Sound}
+use Rattle.rules.specs.Sound.{isBounded, areDistinct, queueNumbers, isSoundQueue, sound, Sound, isNewestInTime, areNewestTrue}
 use Rattle.rules.specs.Event.{Event}
 use Rattle.rules.specs.declared.Found.{Found}
 use Rattle.rules.specs.declared.Found.the-variants.{Nothing, At}
@@ -20,7 +20,8 @@ use Rattle.rules.proofs.Laws.Kinds.{kind-known}
 use Rattle.rules.proofs.Laws.Freeing.{next-givable}
 use Rattle.rules.proofs.Laws.Permitted.{Startable, Touchable, Committable, Judgeable, step-by-kind}
 use Rattle.rules.proofs.Sound.Soundness.{facts}
-use Rattle.rules.proofs.Sound.TableChanges.{TableChange, change-keeps-sound}
+use Rattle.rules.proofs.Sound.TableChanges.{TableChange}
+use Rattle.rules.proofs.Sound.SoundKept.{change-keeps-sound}
 use Rattle.rules.proofs.Sound.Starting.{start-keeps-sound}
 use Rattle.rules.proofs.Sound.Reading.{read-change}
 use Rattle.rules.proofs.Sound.Writing.{write-change}
@@ -32,7 +33,7 @@ use Rattle.rules.proofs.Sound.TakingOut.{out-sound, out-reach, out-spar
 use Rattle.rules.proofs.Sound.Leaving.{leave-keeps-sound, both-keep-sound}
 
 pub new-sound : Sound newTable
-unfolding sound newTable word actions upFrom all kinds isBounded isSoundQueue areDistinct queueNumbers queue
+unfolding sound newTable word actions parents upFrom all accounts kinds kindUnder isBounded isSoundQueue areDistinct queueNumbers queue isNewestInTime areNewestTrue
 new-sound = facts newTable refl
 
 -- ---- event by event, where it isn't refused
@@ -53,7 +54,7 @@ module _ (s : Ledger) (was : Sound (s .table)) (n : ℕ) where
 
   read-sound : (k : ℕ) → Touchable (s .table) n k → Sounds (read s n k) []
   unfolding read
-  read-sound k p = by-change _ (read-change (s .table) n k (p .account) was (p .own))
+  read-sound k p = by-change _ (read-change (s .table) n k (p .account) was (p .own) (p .alive))
 
   write-sound : (k : ℕ) (card : List ℕ) → Touchable (s .table) n k → Sounds (write s n k card) []
   unfolding write

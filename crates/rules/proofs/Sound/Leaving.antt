@@ -24,7 +24,7 @@ use Rattle.rules.proofs.Laws.Distinct.{distinct-parts}
 use Rattle.rules.proofs.Laws.Queue.{queue-kept, queue-length}
 use Rattle.rules.proofs.Laws.Permitted.{Committable, no-live-child}
 use Rattle.rules.proofs.Laws.Walking.{climb-holds, atOrBelow-store, atOrBelow-step, atOrBelow-itself}
-use Rattle.rules.proofs.Sound.TableChanges.{change-keeps-sound}
+use Rattle.rules.proofs.Sound.SoundKept.{change-keeps-sound}
 use Rattle.rules.proofs.Sound.QueueChanges.{numbersOf, without-queue, without-other-queue, without-change, out-committable}
 use Rattle.rules.proofs.Sound.Committing.{commit-line}
 use Rattle.rules.proofs.Sound.Judging.{fail-line, fail-change, commit-change}

@@ -12,7 +12,7 @@ use lib.ListN.{length, length-map, length-append}
 use borrow.Author.Tests.{eqb-true, not-true}
 use Rattle.rules.specs.Range.{any, filter}
 use Rattle.rules.specs.Kind.{IsKind, kindUnder}
-use Rattle.rules.specs.Table.{IsActionField, width, mostActions, word, highestField, highest, counterField, counter, lastTime, parentField, parentOf, kindOf, stateField, endField, readField, readEntry, subTimeField, subTime, writeField, pendingField, isLive, hasEnd}
+use Rattle.rules.specs.Table.{IsActionField, mostActions, word, highestField, highest, counterField, counter, lastTime, parentField, parentOf, kindOf, stateField, endField, readField, subTimeField, writeField, pendingField, isLive, hasEnd, newestField}
 use Rattle.rules.specs.Walk.{isAtOrBelow, isAbortedBy}
 use Rattle.rules.specs.Queue.{numberField, readyField, queueLengthField, queueLength, Entry, isOf, queue, isQueued, isWaiting, withQueue, newEntry, withTail, readied, withReady, keepsPlace, withoutBelow}
 use Rattle.rules.specs.Sound.{areDistinct, queueNumbers, IsGiven, MayWait, SoundQueue, Sound}
@@ -23,7 +23,8 @@ use Rattle.rules.proofs.Laws.Kinds.{either-side, unqueued-in, unqueued-
 use Rattle.rules.proofs.Laws.Queue.{OffEntry, withQueue-length, withQueue-off, queueLength-same, queue-same, queue-length, SameLine, queue-kept}
 use Rattle.rules.proofs.Laws.Permitted.{Committable}
 use Rattle.rules.proofs.Laws.Walking.{atOrBelow-itself}
-use Rattle.rules.proofs.Sound.TableChanges.{ReadsInTime, Bounded, TableChange, change-keeps-sound, sum-stays, writes-agree, still-childless, quiet-line, quiet-change}
+use Rattle.rules.proofs.Sound.TableChanges.{ReadsFrom, same-read, Bounded, TableChange, sum-stays, writes-agree, still-childless, quiet-line, quiet-change, action-width}
+use Rattle.rules.proofs.Sound.SoundKept.{change-keeps-sound}
 
 -- the numbers of entries
 abbrev pub numbersOf : List Entry → List ℕ
@@ -37,10 +38,6 @@ OffLength h m g = (1 ≤ m) ⊎ (g ≢ queueLengthField h)
 off-entries : (h : ℕ) → IsKind h → (g : ℕ) → IsActionField g → OffEntry h g
 off-entries h known g (inl front) = inl (omega arith)
 off-entries h known g (inr back) = inr (omega arith)
-
-pub action-width : (g : ℕ) → IsActionField g → g < width
-action-width g (inl front) = omega arith
-action-width g (inr back) = back .1
 
 -- ---- a queue given anew
 
@@ -98,12 +95,10 @@ module _ (w : List ℕ) (s : Sound w) (h : ℕ) (known : IsKind h) (es : List En
   counter-kept : (x : ℕ) → IsKind x → counter given x ≡ counter w x
   counter-kept x is = given-keeps 0 (counterField x) (inl (omega arith)) (inr (λ z. omega arith))
 
-  reads-kept : ReadsInTime w given
-  reads-kept x m k is begun l hk r =
-      let entry : readEntry given m k ≡ readEntry w m k = given-keeps m (readField k) (inl (omega arith)) (inl (begun .0)) in
-      let time : subTime given m k ≡ subTime w m k =
-      given-keeps m (subTimeField k) (inr (omega arith, omega arith)) (inl (begun .0)) in
-      rw (entry, time, counter-kept x is) (s .reads x m k is begun (sym (live-kept m) ∙ l) hk (rw entry at r))
+  reads-kept : ReadsFrom w given
+  reads-kept x m k is begun l hk =
+      same-read w given x m k (given-keeps m (readField k) (inl (omega arith)) (inl (begun .0)))
+      (given-keeps m (subTimeField k) (inr (omega arith, omega arith)) (inl (begun .0)))
 
   -- the queue itself, and the other one
   lines-kept : SoundQueue given h → (x : ℕ) → IsKind x → SoundQueue given x
@@ -130,6 +125,8 @@ module _ (w : List ℕ) (s : Sound w) (h : ℕ) (known : IsKind h) (es : List En
       (λ m. given-keeps m stateField (inl (omega arith)) (inr (λ z. omega arith)))
       reads-kept
       (λ m h e. inl (sym (end-kept m h) ∙ e, given-keeps m endField (inl (omega arith)) (inl (h .0))))
+      (λ m h _ g inside. given-keeps m g inside (inl (h .0)))
+      (λ p k account. given-keeps p (newestField k) (inr (omega arith, omega arith)) (inr (λ z. omega arith)))
       (λ m k h charge.
       sum-stays w given m k (given-keeps m (writeField k) (inl (omega arith)) (inl (h .0)))
       (given-keeps m (pendingField k) (inl (omega arith)) (inl (h .0))))

@@ -1,9 +1,8 @@
 -- A read's table: the reader's entry for the account and the subaction time beside it may change, and the table stays sound.
 -- Assumes nothing.
-use Prim.Native.Nat.{ℕ, zero, suc, _+_, _-_, _≤_, _<_}
+use Prim.Native.Nat.{ℕ, zero, suc, _+_, _-_, _<_}
 use native.Mathlib.Omega.{arith}
 use native.Mathlib.Decide.{ℕ-discrete}
-use native.Mathlib.Nat.{le-of-eq}
 use mathlib.Core.Path.{_≡_, refl, sym, ap, ap₂, _∙_}
 use mathlib.Core.Logic.{_⊎_, inl, inr, _≢_}
 use mathlib.Core.Bool.{Bool, true, false, cond, _&&_}
@@ -12,13 +11,13 @@ use lib.Dec.{eqb}
 use lib.ListN.{length}
 use Rattle.rules.specs.Card.{accountCount}
 use Rattle.rules.specs.Kind.{IsKind, topKind, subKind}
-use Rattle.rules.specs.Table.{hasEnd, width, committed, word, highestField, counterField, counter, parentField, stateField, stateOf, endField, readField, readEntry, withRead, subTimeField, subTime, readTime, writeField, pendingField}
+use Rattle.rules.specs.Table.{hasEnd, width, committed, word, highestField, counterField, counter, parentField, stateField, stateOf, endField, readField, readEntry, withRead, subTimeField, subTime, writeField, pendingField, isLive, isCommitted, newestField}
 use Rattle.rules.specs.Queue.{queueLengthField}
 use Rattle.rules.specs.Sound.{IsGiven, Sound}
 use Rattle.rules.specs.Step.{leavesReadSet, withReadNow, readTable}
 use Rattle.rules.proofs.Laws.Words.{withWord-length, word-same, word-other-row, word-other-field, word-off-field}
 use Rattle.rules.proofs.Laws.Queue.{SameLine}
-use Rattle.rules.proofs.Sound.TableChanges.{ReadsInTime, TableChange, bounds-stay, sum-stays, quiet-line, quiet-change, writes-agree}
+use Rattle.rules.proofs.Sound.TableChanges.{ReadsFrom, TableChange, bounds-stay, sum-stays, quiet-line, quiet-change, writes-agree, ReadFrom, same-read, made-now, RowKept, action-width, live-uncommitted}
 use Rattle.rules.proofs.Laws.Tests.{cond-holds}
 
 -- ---- the table after a read of account k by n
@@ -118,13 +117,17 @@ module _ (w : List ℕ) (n k : ℕ) (account : k < accountCount) where
             )
         go (yes e) (yes f) = rw (e, f) (own-entry (rw e at begun))
 
-    reads-in-time : ReadsInTime w (readTable w n k)
-    reads-in-time h m j known begun l hj r = rw (counter-kept h known) (go (entry-after m j begun hj))
+    reads-from : ReadsFrom w (readTable w n k)
+    reads-from h m j known begun l hj has = go (entry-after m j begun hj)
       where
-        go : OldOrNew w (readTable w n k) m j → readTime (readTable w n k) h m j ≤ counter w h
-        go (inl old) =
-            rw (old .0, old .1) (s .reads h m j known begun (rw (state-kept m) at l) hj (rw (old .0) at r))
-        go (inr new) = rw (new .0, new .1) (le-of-eq (new-time w h known))
+        go : OldOrNew w (readTable w n k) m j → ReadFrom w (readTable w n k) h m j
+        go (inl (entry, time)) = same-read w (readTable w n k) h m j entry time has
+        go (inr (entry, time)) = made-now (rw (entry, time) (new-time w h known))
+
+    -- a committed action isn't the reader, which is live
+    finals-kept : isLive w n ≡ true → (m : ℕ) → isCommitted w m ≡ true → RowKept w (readTable w n k) m
+    finals-kept alive m did g inside =
+        read-keeps-row m g (action-width g inside) (λ same. live-uncommitted w n alive (rw same at did))
 
     pub read-line : IsGiven w n → (h : ℕ) → IsKind h → SameLine w (readTable w n k) h
     read-line own h known =
@@ -133,14 +136,16 @@ module _ (w : List ℕ) (n k : ℕ) (account : k < accountCount) where
           sameEntries = λ i g _ first last. read-keeps-field i g (omega arith) (λ z. omega arith) (λ z. omega arith);
         }
 
-    pub read-change : IsGiven w n → TableChange w (readTable w n k) n
-    read-change own =
+    pub read-change : IsGiven w n → isLive w n ≡ true → TableChange w (readTable w n k) n
+    read-change own alive =
         quiet-change w (readTable w n k) n s read-length
         (read-keeps-field 0 highestField (omega arith) (λ z. omega arith) (λ z. omega arith))
         counter-kept (bounds-stay s (readTable w n k) counter-kept (λ h known. read-line own h known .sameLength))
         (λ m. read-keeps-field m parentField (omega arith) (λ z. omega arith) (λ z. omega arith))
-        state-kept reads-in-time
+        state-kept reads-from
         (λ m h e. inl (sym (end-kept m) ∙ e, read-keeps-field m endField (omega arith) (λ z. omega arith) (λ z. omega arith)))
+        (λ m h. finals-kept alive m)
+        (λ p j hj. read-keeps-field p (newestField j) (omega arith) (λ z. omega arith) (λ z. omega arith))
         (λ m j h charge.
         sum-stays w (readTable w n k) m j (read-keeps-field m (writeField j) (omega arith) (λ z. omega arith) (λ z. omega arith))
         (read-keeps-field m (pendingField j) (omega arith) (λ z. omega arith) (λ z. omega arith)))

@@ -3,7 +3,7 @@ use Prim.Native.Nat.{ℕ, _+_, _-_, _≤_, _<_}
 use native.Mathlib.Omega.{arith}
 use mathlib.Core.Path.{_≡_, sym, ap, _∙_}
 use mathlib.Core.Logic.{_⊎_, ⊎-elim, ⊎-map, _≢_}
-use mathlib.Core.Bool.{Bool, true, false, not, _&&_, _||_}
+use mathlib.Core.Bool.{true, false, not, _&&_, _||_}
 use mathlib.Core.List.{List}
 use borrow.Author.Tests.{ltb-true, ltb-false, leb-true, eqb-true, eqb-false, le-leb, eq-eqb, ne-eqb, not-true, not-false}
 use lib.Dec.{leb, ltb, eqb}
@@ -11,30 +11,17 @@ use lib.ListN.{length}
 use Rattle.rules.specs.Range.{any, all}
 use Rattle.rules.specs.Card.{accountCount, accounts, firstCharge, chargeCount, IsCharge, chargeAccounts}
 use Rattle.rules.specs.Kind.{IsKind, kinds}
-use Rattle.rules.specs.Table.{hasEnd, tableLength, mostActions, highest, counter, lastTime, parentOf, kindOf, endTime, hasRead, readTime, writeEntry, hasWritten, pendingWord, isLive, actions}
+use Rattle.rules.specs.Table.{hasEnd, tableLength, mostActions, highest, counter, lastTime, parentOf, kindOf, endTime, hasRead, readTime, writeEntry, hasWritten, pendingWord, isLive, actions, parents}
 use Rattle.rules.specs.Queue.{queueLength, queue, isQueued}
-use Rattle.rules.specs.Sound.{isBounded, hasState, hasParentAlive, hasTimesIn, hasReadInTime, hasEndInTime, sharesEndTime, hasEndAlone, hasPendingWritten, isSoundAction, mayWait, queueNumbers, isSoundQueue, sound, IsGiven, MayWait, SoundQueue, Sound, hasParentKnown, hasWayUp, endsUnderAnother}
+use Rattle.rules.specs.Sound.{isBounded, hasState, hasParentAlive, hasTimesIn, hasReadInTime, hasEndInTime, sharesEndTime, hasEndAlone, hasPendingWritten, isSoundAction, mayWait, queueNumbers, isSoundQueue, isNewestInTime, areNewestTrue, sound, IsGiven, MayWait, SoundQueue, Sound, hasParentKnown, hasWayUp, endsUnderAnother}
 use Rattle.rules.specs.Walk.{climbs}
 use Rattle.rules.proofs.Laws.Tests.{and-left, and-right, and-both, or-cases, or-inl, or-inr, test, implied, implies, not-both, false-of-not-true}
 use Rattle.rules.proofs.Laws.Ranges.{Within, all-at, all-of}
 use Rattle.rules.proofs.Laws.Lists.{any-map, all-listed, listed-all}
 use Rattle.rules.proofs.Laws.Sets.{charge-within}
 use Rattle.rules.proofs.Laws.Kinds.{all-kinds, kinds-all}
-
--- the numbers that were given are those of the run that the scans go over
-given-within : (w : List ℕ) (n : ℕ) → IsGiven w n → Within 1 (highest w) n
-given-within w n h = omega arith
-
-within-given : (w : List ℕ) (n : ℕ) → Within 1 (highest w) n → IsGiven w n
-within-given w n h = omega arith
-
-pub all-given : (w : List ℕ) (f : ℕ → Bool) → all f (actions w) ≡ true → (n : ℕ) → IsGiven w n → f n ≡ true
-unfolding actions
-all-given w f p n h = all-at f 1 (highest w) n p (given-within w n h)
-
-pub given-all : (w : List ℕ) (f : ℕ → Bool) → ((n : ℕ) → IsGiven w n → f n ≡ true) → all f (actions w) ≡ true
-unfolding actions
-given-all w f h = all-of f 1 (highest w) (λ n r. h n (within-given w n r))
+use Rattle.rules.proofs.Sound.Scans.{all-given, given-all, all-parents, parents-all}
+use Rattle.rules.proofs.Sound.NewestClauses.{in-time-fact, in-time-test, newest-true-fact, newest-true-test}
 
 -- ---- the clauses that are more than one comparison, from test to fact and back
 
@@ -276,7 +263,12 @@ module _ (w : List ℕ) where
       let few = leb (highest w) mostActions in
       let bounded = all (isBounded w) kinds in
       let fold = all (isSoundAction w) (actions w) in
-      let t4 = and-left (long && few && bounded && fold) (all (isSoundQueue w) kinds) t in
+      let waiting = all (isSoundQueue w) kinds in
+      let timely = all (isNewestInTime w) (parents w) in
+      let true-told = all (areNewestTrue w) (parents w) in
+      let t6 = and-left (long && few && bounded && fold && waiting && timely) true-told t in
+      let t5 = and-left (long && few && bounded && fold && waiting) timely t6 in
+      let t4 = and-left (long && few && bounded && fold) waiting t5 in
       let t3 = and-left (long && few && bounded) fold t4 in
       let t2 = and-left (long && few) bounded t3 in
       let of : (n : ℕ) → IsGiven w n → SoundAction w n =
@@ -303,7 +295,16 @@ module _ (w : List ℕ) where
         lines =
             λ h known.
             queue-facts w h
-            (all-kinds (isSoundQueue w) (and-right (long && few && bounded && fold) (all (isSoundQueue w) kinds) t) h known);
+            (all-kinds (isSoundQueue w) (and-right (long && few && bounded && fold) waiting t5) h known);
+        newestInTime =
+            λ p k known.
+            in-time-fact w p
+            (all-parents w (isNewestInTime w) (and-right (long && few && bounded && fold && waiting) timely t6) p known) k;
+        newestTrue =
+            λ p m k held lives below account has.
+            newest-true-fact w p
+            (all-parents w (areNewestTrue w) (and-right (long && few && bounded && fold && waiting && timely) true-told t) p (held .0))
+            held m (lives .0) (lives .1) below k account has;
       }
 
   tested-action : Sound w → (n : ℕ) → IsGiven w n → SoundAction w n
@@ -333,10 +334,16 @@ module _ (w : List ℕ) where
   tested s =
       and-both
       (and-both
+      (and-both
+      (and-both
       (and-both (and-both (eq-eqb _ _ (s .long)) (le-leb _ _ (s .few)))
       (kinds-all (isBounded w) (λ h known. bounded-test w h (s .bounded h known))))
       (given-all w _ (λ n h. action-tested w n (tested-action s n h))))
-      (kinds-all (isSoundQueue w) (λ h known. queue-tested w h (s .lines h known)))
+      (kinds-all (isSoundQueue w) (λ h known. queue-tested w h (s .lines h known))))
+      (parents-all w (isNewestInTime w) (λ p known. in-time-test w p (λ k. s .newestInTime p k known))))
+      (parents-all w (areNewestTrue w)
+      (λ p known.
+      newest-true-test w p known (λ held m given live below k. s .newestTrue p m k held (given, live) below)))
 
 -- ---- RULES 7.3: no counter is above the last time
 

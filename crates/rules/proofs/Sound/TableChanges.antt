@@ -13,14 +13,12 @@ use lib.Dec.{eqb}
 use lib.ListN.{length}
 use Rattle.rules.specs.Card.{accountCount, accounts, IsCharge}
 use Rattle.rules.specs.Kind.{IsKind, kindUnder}
-use Rattle.rules.specs.Table.{hasEnd, tableLength, entryFields, width, live, committed, word, writeFields, highestField, counterField, parentField, stateField, endField, readField, readEntry, subTimeField, subTime, writeField, writeEntry, entered, hasWritten, hasWrites, pendingField, pendingWord, highest, counter, lastTime, parentOf, kindOf, stateOf, endTime, hasRead, readTime, isLive, isCommitted, actions, isChildOf, isLiveChildOf, hasLiveChild, mostActions}
+use Rattle.rules.specs.Table.{hasEnd, IsActionField, tableLength, entryFields, width, live, committed, word, writeFields, highestField, counterField, parentField, stateField, endField, readField, readEntry, subTimeField, subTime, writeField, writeEntry, entered, hasWritten, hasWrites, pendingField, pendingWord, newestField, newest, highest, counter, lastTime, parentOf, kindOf, stateOf, endTime, hasRead, readTime, isLive, isCommitted, actions, isChildOf, isLiveChildOf, hasLiveChild, isRecordOf}
 use Rattle.rules.specs.Queue.{queueLengthField, queueLength, isQueued}
-use Rattle.rules.specs.Sound.{hasState, queueNumbers, IsGiven, SoundQueue, Sound}
-use Rattle.rules.specs.Walk.{climbs}
+use Rattle.rules.specs.Sound.{hasState, queueNumbers, IsGiven, IsLiveAction, SoundQueue, Sound}
 use Rattle.rules.proofs.Laws.Tests.{and-left, and-right, and-both, not-both, false-of-not-true}
 use Rattle.rules.proofs.Laws.Ranges.{not-any, not-any-at, any-agree}
 use Rattle.rules.proofs.Laws.Kinds.{kind-known}
-use Rattle.rules.proofs.Laws.Climbing.{climbs-agree}
 use Rattle.rules.proofs.Laws.Queue.{SameLine, queue-kept}
 
 -- ---- facts that every event needs
@@ -34,6 +32,11 @@ writes-agree w v m same = any-agree _ _ 0 accountCount (λ k h. ap (λ x. not (e
 -- a live action has not committed
 pub live-uncommitted : (w : List ℕ) (n : ℕ) → isLive w n ≡ true → isCommitted w n ≡ true → ⊥
 live-uncommitted w n l c = omega (arith, eqb-true (stateOf w n) live l, eqb-true (stateOf w n) committed c)
+
+-- a word of an action stands in its row
+pub action-width : (g : ℕ) → IsActionField g → g < width
+action-width g (inl front) = omega arith
+action-width g (inr back) = back .1
 
 -- ---- a change
 
@@ -52,11 +55,45 @@ pub sum-stays :
     (w v : List ℕ) (m k : ℕ) → writeEntry v m k ≡ writeEntry w m k → pendingWord v m k ≡ pendingWord w m k → SumStays w v m k
 sum-stays w v m k entry sum none = (rw entry at none, sum)
 
--- The reads of those who are live in v, of which w says who they are: no time of either kind is above that kind's counter.
-abbrev pub ReadsInTime : List ℕ → List ℕ → Type 0
-ReadsInTime w v =
-    (h m k : ℕ) → IsKind h → IsGiven w m → isLive v m ≡ true → k < accountCount → hasRead v m k ≡ true →
-    readTime v h m k ≤ counter v h
+-- Where action m's read of account k in v comes from, by its time of kind h: m had it in w, or a live child of m had, or it was
+-- made now.
+pub data ReadFrom (w v : List ℕ) (h m k : ℕ) : Type 0 where
+  own : hasRead w m k ≡ true → readTime v h m k ≡ readTime w h m k → ReadFrom w v h m k
+  child's :
+      (x : ℕ) → IsLiveAction w x → parentOf w x ≡ m → hasRead w x k ≡ true → readTime v h m k ≡ readTime w h x k →
+      ReadFrom w v h m k
+  made-now : readTime v h m k ≡ counter w h → ReadFrom w v h m k
+
+-- The reads of those who are live in v, of which w says who they are.
+abbrev pub ReadsFrom : List ℕ → List ℕ → Type 0
+ReadsFrom w v =
+    (h m k : ℕ) → IsKind h → IsGiven w m → isLive v m ≡ true → k < accountCount → hasRead v m k ≡ true → ReadFrom w v h m k
+
+-- a read of which neither word has changed was there
+pub same-read :
+    (w v : List ℕ) (h m k : ℕ) → readEntry v m k ≡ readEntry w m k → subTime v m k ≡ subTime w m k → hasRead v m k ≡ true →
+    ReadFrom w v h m k
+same-read w v h m k entry time has = own (rw entry at has) (rw (entry, time) refl)
+
+-- no word of action m has changed
+abbrev pub RowKept : List ℕ → List ℕ → ℕ → Type 0
+RowKept w v m = (g : ℕ) → IsActionField g → word v m g ≡ word w m g
+
+-- Row p's newest end time for account k stays, and whoever is a record of p in v with k in its write set had committed.
+abbrev pub NewestStays : List ℕ → List ℕ → ℕ → ℕ → Type 0
+NewestStays w v p k =
+    (newest v p k ≡ newest w p k)
+    × ((m : ℕ) → IsGiven w m → isRecordOf v p m ≡ true → hasWritten v m k ≡ true → isCommitted w m ≡ true)
+
+-- It becomes the end time of a record with k in its write set that is new: above the counter that was.
+pub record NewestNow (w v : List ℕ) (p k : ℕ) : Type 0 where
+  pub holder : ℕ
+  pub begun : IsGiven w holder
+  pub isRecord : isRecordOf v p holder ≡ true
+  pub written : hasWritten v holder k ≡ true
+  pub noted : newest v p k ≡ endTime v holder
+  pub late : counter w (kindUnder p) < endTime v holder
+  pub inTime : endTime v holder ≤ counter v (kindUnder p)
 
 -- Each counter has room for an end time of each who waits in its queue.
 abbrev pub Bounded : List ℕ → Type 0
@@ -79,81 +116,29 @@ pub record TableChange (w v : List ℕ) (now : ℕ) : Type 0 where
   -- nothing becomes live, and a parent that was live stays so while a child does
   pub wasLive : (m : ℕ) → IsGiven w m → isLive v m ≡ true → isLive w m ≡ true
   pub parentStays : (m : ℕ) → IsGiven w m → isLive v m ≡ true → isLive w (parentOf w m) ≡ true → 1 ≤ parentOf w m → isLive v (parentOf w m) ≡ true
-  pub reads : ReadsInTime w v
+  pub reads : ReadsFrom w v
   pub ends : (m : ℕ) → IsGiven w m → hasEnd v m ≡ true → Ended w v now m
+  -- who had committed keeps its row
+  pub finals : (m : ℕ) → IsGiven w m → isCommitted w m ≡ true → RowKept w v m
+  pub newests : (p k : ℕ) → p ≤ highest w → k < accountCount → NewestStays w v p k ⊎ NewestNow w v p k
   pub pendings : (m k : ℕ) → IsGiven w m → IsCharge k → SumStays w v m k
   pub lines : (h : ℕ) → IsKind h → SoundQueue v h
 
-module _ (w v : List ℕ) (now : ℕ) (s : Sound w) (c : TableChange w v now) where
-  -- the numbers that were given are the same
-  before : (m : ℕ) → IsGiven v m → IsGiven w m
-  before m h = (h .0, rw (c .sameHighest) at (h .1))
-
-  parent-alive : (m : ℕ) → IsGiven v m → isLive v m ≡ true → (parentOf v m ≡ 0) ⊎ (isLive v (parentOf v m) ≡ true)
-  parent-alive m h l =
-      rw (c .parents m (before m h))
-      (⊎-elim inl (λ q. go q (ℕ-discrete (parentOf w m) 0)) (s .alive m (before m h) (c .wasLive m (before m h) l)))
-    where
-      go : isLive w (parentOf w m) ≡ true → Dec (parentOf w m ≡ 0) → (parentOf w m ≡ 0) ⊎ (isLive v (parentOf w m) ≡ true)
-      go q (yes e) = inl e
-      go q (no ne) = inr (c .parentStays m (before m h) l q (omega arith))
-
-  end-in-time : (m : ℕ) → IsGiven v m → hasEnd v m ≡ true → (1 ≤ endTime v m) × (endTime v m ≤ counter v (kindOf v m))
-  end-in-time m h e =
-      rw (c .parents m (before m h))
-      (⊎-elim
-      (λ old. let was = s .ends m (before m h) (old .0) in omega (arith, c .rising (kindOf w m) (kind-known (parentOf w m)), old .1))
-      (λ new. omega (arith, new .1, new .2))
-      (c .ends m (before m h) e))
-
-  -- the parents on the way up are the same
-  still-climbs : (m : ℕ) → IsGiven v m → isLive v m ≡ true → climbs (parentOf v) mostActions m ≡ true
-  still-climbs m h l =
-      climbs-agree (parentOf w) (parentOf v) (λ x. x ≤ highest w)
-      (λ x ne known. let begun : IsGiven w x = (omega arith, known) in (c .parents x begun, s .known x begun))
-      mostActions m (before m h .1) (s .climb m (before m h) (c .wasLive m (before m h) l))
-
-  -- two ends with one time under one parent are one: an old time is at most the old counter, the new one above it
-  end-alone :
-      (n m : ℕ) → IsGiven v n → IsGiven v m → hasEnd v n ≡ true → hasEnd v m ≡ true → parentOf v n ≢ n → parentOf v m ≢ m →
-      parentOf v m ≡ parentOf v n → endTime v m ≡ endTime v n → m ≡ n
-  end-alone n m hn hm en em other other′ parents ends = go (c .ends n (before n hn) en) (c .ends m (before m hm) em)
-    where
-      under : parentOf w m ≡ parentOf w n
-      under = sym (c .parents m (before m hm)) ∙ parents ∙ c .parents n (before n hn)
-
-      -- both are of the kind of n's parent's children
-      go : Ended w v now n → Ended w v now m → m ≡ n
-      go (inl a) (inl b) =
-          s .alone n m (before n hn) (before m hm) (a .0) (b .0)
-          (rw (c .parents n (before n hn)) at other) (rw (c .parents m (before m hm)) at other′)
-          under (sym (b .1) ∙ ends ∙ a .1)
-      go (inl a) (inr b) =
-          absurd (omega (arith, s .ends n (before n hn) (a .0), a .1, rw under at (b .1), rw under at (b .2)))
-      go (inr a) (inl b) =
-          absurd (omega (arith, rw under at (s .ends m (before m hm) (b .0)), b .1, a .1, a .2))
-      go (inr a) (inr b) = b .0 ∙ sym (a .0)
-
-  pending-written : (m k : ℕ) → IsGiven v m → IsCharge k → hasWritten v m k ≡ false → pendingWord v m k ≡ 0
-  pending-written m k h charge none =
-      let was = c .pendings m k (before m h) charge none in was .1 ∙ s .pendings m k (before m h) charge (was .0)
-
-  pub change-keeps-sound : Sound v
-  change-keeps-sound =
-      record {
-        long = c .long;
-        few = rw (c .sameHighest) (s .few);
-        states = λ m h. c .states m (before m h);
-        bounded = c .bounded;
-        known = λ m h. rw (c .parents m (before m h), c .sameHighest) (s .known m (before m h));
-        climb = still-climbs;
-        alive = parent-alive;
-        reads = λ h m k known begun. c .reads h m k known (before m begun);
-        ends = end-in-time;
-        alone = end-alone;
-        pendings = pending-written;
-        lines = c .lines;
-      }
+-- where the counters stay nobody ends, so a newest end time that stays is one that nothing has passed
+pub calm-newest :
+    {w v : List ℕ} {now : ℕ} → ((h : ℕ) → IsKind h → counter v h ≡ counter w h) →
+    ((m : ℕ) → IsGiven w m → hasEnd v m ≡ true → Ended w v now m) → (p k : ℕ) → newest v p k ≡ newest w p k →
+    NewestStays w v p k ⊎ NewestNow w v p k
+unfolding isRecordOf
+calm-newest {w} {v} counters ends p k same =
+    inl (
+      same,
+      λ m begun is written.
+          ⊎-elim
+          (λ old. and-left (isCommitted w m) (hasWrites w m) (old .0))
+          (λ new. absurd (omega (arith, new .2, counters (kindOf w m) (kind-known (parentOf w m)))))
+          (ends m begun (and-right (isChildOf v p m) (hasEnd v m) is)),
+    )
 
 -- ---- the queues
 
@@ -209,11 +194,13 @@ quiet-line w v s h known same starts parents states =
 pub quiet-change :
     (w v : List ℕ) (now : ℕ) → Sound w → length v ≡ length w → highest v ≡ highest w →
     ((h : ℕ) → IsKind h → counter v h ≡ counter w h) → Bounded v →
-    ((m : ℕ) → parentOf v m ≡ parentOf w m) → ((m : ℕ) → stateOf v m ≡ stateOf w m) → ReadsInTime w v →
+    ((m : ℕ) → parentOf v m ≡ parentOf w m) → ((m : ℕ) → stateOf v m ≡ stateOf w m) → ReadsFrom w v →
     ((m : ℕ) → IsGiven w m → hasEnd v m ≡ true → Ended w v now m) →
+    ((m : ℕ) → IsGiven w m → isCommitted w m ≡ true → RowKept w v m) →
+    ((p k : ℕ) → k < accountCount → newest v p k ≡ newest w p k) →
     ((m k : ℕ) → IsGiven w m → IsCharge k → SumStays w v m k) → ((h : ℕ) → IsKind h → SoundQueue v h) →
     TableChange w v now
-quiet-change w v now s len start counters bounded parents states reads ends pendings lines =
+quiet-change w v now s len start counters bounded parents states reads ends finals newests pendings lines =
     record {
       long = len ∙ s .long;
       sameHighest = start;
@@ -225,6 +212,8 @@ quiet-change w v now s len start counters bounded parents states reads ends pend
       parentStays = λ m h l q one. rw (states (parentOf w m)) q;
       reads = reads;
       ends = ends;
+      finals = finals;
+      newests = λ p k known account. calm-newest counters ends p k (newests p k account);
       pendings = pendings;
       lines = lines;
     }
@@ -260,12 +249,14 @@ module _
             fields m endField (omega arith),
           )
 
-  reads-kept : ReadsInTime w v
-  reads-kept h m j known begun l hj r =
-      let entry : readEntry v m j ≡ readEntry w m j = fields m (readField j) (omega arith) in
-      let time : subTime v m j ≡ subTime w m j = behind m (subTimeField j) (omega arith) (omega arith) in
-      rw (entry, time, counter-kept h known)
-      (s .reads h m j known begun (rw (state-kept m) at l) hj (rw entry at r))
+  reads-kept : ReadsFrom w v
+  reads-kept h m j known begun l hj =
+      same-read w v h m j (fields m (readField j) (omega arith)) (behind m (subTimeField j) (omega arith) (omega arith))
+
+  -- n is live, so it isn't one that had committed
+  finals-kept : (m : ℕ) → isCommitted w m ≡ true → RowKept w v m
+  finals-kept m did g inside =
+      others m g (action-width g inside) (λ same. live-uncommitted w n alive (rw same at did))
 
   sums-stay : (m j : ℕ) → IsCharge j → SumStays w v m j
   sums-stay m j charge = go (ℕ-discrete m n) (ℕ-discrete j k)
@@ -281,7 +272,8 @@ module _
       quiet-change w v n s len
       (fields 0 highestField (omega arith)) counter-kept (bounds-stay s v counter-kept length-kept)
       (λ m. fields m parentField (omega arith)) state-kept reads-kept
-      (λ m h. end-kept m)
+      (λ m h. end-kept m) (λ m h. finals-kept m)
+      (λ p j account. behind p (newestField j) (omega arith) (omega arith))
       (λ m j h. sums-stay m j)
       (λ h known.
       quiet-line w v s h known

@@ -12,7 +12,7 @@ use Rattle.rules.specs.Walk.{isAbortedBy}
 use Rattle.rules.specs.Queue.{queueLengthField, Entry, queue, isQueued, keepsPlace, withoutBelow}
 use Rattle.rules.specs.Sound.{Sound}
 use Rattle.rules.specs.Step.{outOfBoth}
-use Rattle.rules.proofs.Sound.TableChanges.{change-keeps-sound}
+use Rattle.rules.proofs.Sound.SoundKept.{change-keeps-sound}
 use Rattle.rules.proofs.Sound.QueueChanges.{without-keeps, without-queue, without-other-queue, without-change, kept-listed, same-reach}
 
 -- a word that is no queue's length

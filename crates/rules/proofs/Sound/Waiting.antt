@@ -19,7 +19,8 @@ use Rattle.rules.proofs.Laws.Tests.{not-both}
 use Rattle.rules.proofs.Laws.Permitted.{Committable, no-live-child}
 use Rattle.rules.proofs.Laws.Kinds.{unqueued-in}
 use Rattle.rules.proofs.Laws.Words.{word-other-row}
-use Rattle.rules.proofs.Sound.QueueChanges.{action-width, without-keeps, without-other-queue, still-queued}
+use Rattle.rules.proofs.Sound.QueueChanges.{without-keeps, without-other-queue, still-queued}
+use Rattle.rules.proofs.Sound.TableChanges.{action-width}
 use Rattle.rules.proofs.Sound.Committing.{commit-keeps-row}
 use Rattle.rules.proofs.Sound.Leaving.{head-out-sound, head-committable, finished-queue}
 

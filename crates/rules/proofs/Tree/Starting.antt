@@ -13,7 +13,7 @@ use Rattle.rules.specs.Step.{giveTable}
 use Rattle.rules.proofs.Laws.Amounts.{amount-zero}
 use Rattle.rules.proofs.Laws.Freeing.{Givable}
 use Rattle.rules.proofs.Sound.Giving.{give-head, give-pending, give-own-adds, give-kept}
-use Rattle.rules.proofs.Sound.Starting.{by-age, old-field}
+use Rattle.rules.proofs.Sound.Started.{by-age, old-field}
 use Rattle.rules.proofs.Tree.Carried.{Carried}
 
 module _ {w : List ℕ} (s : Sound w) (n p k : ℕ) (charge : IsCharge k) (g : Givable w n) where

@@ -7,8 +7,8 @@ use Rattle.rules.specs.Step.{commit, judged}
 use Rattle.commits.proofs.commit.commit.Statement.{statement}
 use Rattle.commits.proofs.commit.commit.Tie as tie
 
-first-clash-requires : tie.Need-first-clash-requires
-first-clash-requires c κs = search needs
+clash-of-requires : tie.Need-clash-of-requires
+clash-of-requires c κs = search needs
 
 enum-told : tie.Need-enum-told
 enum-told c = search needs
@@ -26,7 +26,7 @@ returns : tie.Need-returns
 returns c =
     let told = c .before .before .before .before in
     rw (
-      ← told .before .before .first-clash .ensures,
+      ← told .before .before .clash-of .ensures,
       told .enum-told .given .1,
       sym (c .before .is-outside .ensures) ∙ c .if1 .taken,
     )
@@ -61,7 +61,7 @@ returns-2 c =
     let tested = passed .before .before .before .before in
     let told = tested .before .before .before .before in
     rw (
-      ← told .before .before .first-clash .ensures,
+      ← told .before .before .clash-of .ensures,
       told .enum-told .given .1,
       sym (tested .before .is-outside .ensures) ∙ tested .if1 .left,
     )
@@ -75,13 +75,13 @@ unfolding commit judged isCommitOutside
 returns-3 c =
     let put = c .before .before in
     let told = put .before .before .before in
-    rw (← told .before .before .first-clash .ensures, told .found .given .1, put .set-state .ensures)
+    rw (← told .before .before .clash-of .ensures, told .found .given .1, put .set-state .ensures)
 
 pub commit-spec : {M : Type 1} → statement M
 commit-spec =
     tie.close
     (tie.spec
-    first-clash-requires
+    clash-of-requires
     enum-told
     is-outside-requires
     same-length

@@ -1,8 +1,8 @@
--- `pass` leaves what `committedUnder` says: the copies, then the end, then the kept sums, then the sets joined where the parent is
--- an action. The end and the kept sums go by what no copy changes. A live action is not its own parent, so the two have different
--- rows. Assumes nothing.
+-- `pass` leaves what `committedUnder` says: the copies, then the end, then the kept sums, then the newest end times, then the sets
+-- joined where the parent is an action. The end, the kept sums and whose child n is go by what no copy changes. A live action is not
+-- its own parent, so the two have different rows. Assumes nothing.
 use native.Mathlib.Omega.{arith}
-use mathlib.Core.Path.{ap, _∙_}
+use mathlib.Core.Path.{sym, ap, _∙_}
 use borrow.Author.Needs.{needs}
 use borrow.Author.Tests.{eq-eqb, ne-eqb}
 use Rattle.rules.specs.Table.{counter, parentOf, kindOf}
@@ -11,6 +11,7 @@ use Rattle.rules.specs.Commit.{commitTime, committedUnder}
 use Rattle.rules.proofs.Laws.Kinds.{kind-known}
 use Rattle.rules.proofs.Laws.Walking.{live-no-own-parent}
 use Rattle.rules.proofs.Copies.Whole.{copied-own-counter, copied-time}
+use Rattle.rules.proofs.Sound.Committing.{parent-kept}
 use Rattle.rules.proofs.Sound.Soundness.{counter-at-most}
 use Rattle.commits.proofs.commit.pass.Statement.{statement}
 use Rattle.commits.proofs.commit.pass.Tie as tie
@@ -64,9 +65,31 @@ keep-totals-requires c κs =
       ),
     )
 
+note-ends-requires : tie.Need-note-ends-requires
+note-ends-requires c κs =
+    let kept = c .before .before .before in
+    let ended = kept .before .before .before .before in
+    let copied = ended .before .before .before .before .before .before .before .before in
+    let parent = copied .before .before .before .before .parent in
+    let start = copied .before .before .before .before .before .before .before .before .before in
+    let args = start .args in
+    let entry = ledgerOf (args .table .now) (args .base .now) (args .shadow .now) in
+    let sound = start .pre .0 in
+    let known = sound .known (args .n) (start .pre .1 .0 .0) in
+    let apart = live-no-own-parent sound (args .n) (start .pre .1 .0 .0) (start .pre .1 .0 .1) in
+    let table = ap (λ (t : Ledger). t .table) (copied .copy-down .ensures) in
+    let child = parent-kept entry (args .n) (parent .result) (start .pre .1 .0 .0 .0) ∙ sym (parent .ensures) in (
+      search needs,
+      (
+        omega (arith, known, parent .ensures, sound .few, sound .long),
+        (omega (arith, apart, parent .ensures), rw (kept .keep-totals .ensures, ended .end .ensures .1, table) child),
+      ),
+    )
+
 join-sets-requires : tie.Need-join-sets-requires
 join-sets-requires c κs =
-    let ended = c .before .before .before .before .before .before .before .before in
+    let noted = c .before .before .before .before in
+    let ended = noted .before .before .before .before .before .before .before .before in
     let copied = ended .before .before .before .before .before .before .before .before in
     let parent = copied .before .before .before .before .parent in
     let start = copied .before .before .before .before .before .before .before .before .before in
@@ -89,7 +112,8 @@ unfolding committedUnder
 returns c =
     let joined = c .before .before in
     let tested = joined .before .before in
-    let kept = tested .before .before .before in
+    let noted = tested .before .before .before in
+    let kept = noted .before .before .before .before in
     let ended = kept .before .before .before .before in
     let copied = ended .before .before .before .before .before .before .before .before in
     let parent = copied .before .before .before .before .parent in
@@ -100,6 +124,7 @@ returns c =
         ← parent .ensures,
         ne-eqb (parent .result) 0 (tested .if1 .taken),
         joined .join-sets .ensures,
+        noted .note-ends .ensures,
         kept .keep-totals .ensures,
         ended .end .ensures .1,
         ← copied .copy-down .ensures,
@@ -118,7 +143,8 @@ same-length-6 c = search needs
 returns-2 : tie.Need-returns-2
 unfolding committedUnder
 returns-2 c =
-    let kept = c .before .before .before in
+    let noted = c .before .before .before in
+    let kept = noted .before .before .before .before in
     let ended = kept .before .before .before .before in
     let copied = ended .before .before .before .before .before .before .before .before in
     let parent = copied .before .before .before .before .parent in
@@ -128,6 +154,7 @@ returns-2 c =
       rw (
         ← parent .ensures,
         eq-eqb (parent .result) 0 (c .if1 .left),
+        noted .note-ends .ensures,
         kept .keep-totals .ensures,
         ended .end .ensures .1,
         ← copied .copy-down .ensures,
@@ -142,6 +169,7 @@ pass-spec =
     copy-down-requires
     end-requires
     keep-totals-requires
+    note-ends-requires
     join-sets-requires
     same-length
     same-length-2

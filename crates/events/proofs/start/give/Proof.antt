@@ -25,14 +25,8 @@ set-state-requires c κs = search needs
 clear-end-requires : tie.Need-clear-end-requires
 clear-end-requires c κs = search needs
 
-clear-own-adds-requires : tie.Need-clear-own-adds-requires
-clear-own-adds-requires c κs = search needs
-
-clear-kept-requires : tie.Need-clear-kept-requires
-clear-kept-requires c κs = search needs
-
-clear-sets-requires : tie.Need-clear-sets-requires
-clear-sets-requires c κs = search needs
+clear-accounts-requires : tie.Need-clear-accounts-requires
+clear-accounts-requires c κs = search needs
 
 same-length : tie.Need-same-length
 same-length c = search needs
@@ -41,9 +35,7 @@ returns : tie.Need-returns
 unfolding giveTable
 returns c =
     let emptied = c .before .before in
-    let unkept = emptied .before .before .before .before in
-    let unadded = unkept .before .before .before .before in
-    let ended = unadded .before .before .before .before in
+    let ended = emptied .before .before .before .before in
     let lives = ended .before .before .before .before in
     let placed = lives .before .before .before .before in
     let counted = placed .before .before .before .before in
@@ -57,10 +49,8 @@ returns c =
       ← placed .set-parent .ensures,
       ← lives .set-state .ensures,
       ← ended .clear-end .ensures,
-      ← unadded .clear-own-adds .ensures,
-      ← unkept .clear-kept .ensures,
     )
-    (emptied .clear-sets .ensures)
+    (emptied .clear-accounts .ensures)
 
 pub give-spec : {M : Type 1} → statement M
 give-spec =
@@ -73,8 +63,6 @@ give-spec =
     set-parent-requires
     set-state-requires
     clear-end-requires
-    clear-own-adds-requires
-    clear-kept-requires
-    clear-sets-requires
+    clear-accounts-requires
     same-length
     returns)

@@ -5,8 +5,8 @@ use Rattle.rules.specs.Verdict.{verdictOf}
 use Rattle.judging.proofs.verdict.verdict.Statement.{statement}
 use Rattle.judging.proofs.verdict.verdict.Tie as tie
 
-first-clash-requires : tie.Need-first-clash-requires
-first-clash-requires c κs = search needs
+clash-of-requires : tie.Need-clash-of-requires
+clash-of-requires c κs = search needs
 
 enum-told : tie.Need-enum-told
 enum-told c = search needs
@@ -22,7 +22,7 @@ unfolding verdictOf
 returns c =
     let told = c .before .before in
     rw (
-      ← told .before .before .first-clash .ensures,
+      ← told .before .before .clash-of .ensures,
       told .enum-told .given .1,
       sym (c .before .is-met-in-queue .ensures) ∙ c .if1 .taken,
     )
@@ -32,20 +32,20 @@ unfolding verdictOf
 returns-2 c =
     let told = c .before .before in
     rw (
-      ← told .before .before .first-clash .ensures,
+      ← told .before .before .clash-of .ensures,
       told .enum-told .given .1,
       sym (c .before .is-met-in-queue .ensures) ∙ c .if1 .left,
     )
 
 returns-3 : tie.Need-returns-3
 unfolding verdictOf
-returns-3 c = rw (← c .before .before .first-clash .ensures, c .enum-told2 .given .1)
+returns-3 c = rw (← c .before .before .clash-of .ensures, c .enum-told2 .given .1)
 
 pub verdict-spec : {M : Type 1} → statement M
 verdict-spec =
     tie.close
     (tie.spec
-    first-clash-requires
+    clash-of-requires
     enum-told
     is-met-in-queue-requires
     enum-told-2

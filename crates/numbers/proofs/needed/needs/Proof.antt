@@ -31,7 +31,10 @@ is-under-requires : tie.Need-is-under-requires
 is-under-requires c κs =
     let alive = c .before .before .before in
     let start = alive .before .before .before in
-    (start .pre .0, (start .pre .1 .1, held (alive .before .is-live .ensures) (alive .if1 .left)))
+    let sound = start .pre .0 in (
+      record { long = sound .long; few = sound .few; known = sound .known; climb = sound .climb },
+      (start .pre .1 .1, held (alive .before .is-live .ensures) (alive .if1 .left)),
+    )
 
 returns-3 : tie.Need-returns-3
 unfolding free.needs

@@ -6,19 +6,21 @@ use mathlib.Core.Path.{_≡_, sym, _∙_}
 use borrow.Author.Needs.{needs}
 use Rattle.rules.specs.Range.{all}
 use Rattle.rules.specs.Card.{accountCount, firstCharge, chargeAccounts}
-use Rattle.soundness.proofs.PendingWords.{hasNoSum, noSumFrom, no-sum-all, no-sum-next, no-sum-done}
+use Rattle.rules.specs.Table.{pendingWord}
+use Rattle.rows.proofs.JoinedWords.{isNone, noneFrom, none-all, none-next, none-done}
 use Rattle.soundness.proofs.pending.has_no_pending.Statement.{statement}
 use Rattle.soundness.proofs.pending.has_no_pending.Tie as tie
 
 abbrev Inv-loop : tie.InvT-loop
 Inv-loop table n joined₀ k₀ joined k =
-    (firstCharge ≤ k) × (all (hasNoSum table n) chargeAccounts ≡ noSumFrom table n k joined)
+    (firstCharge ≤ k) × (all (isNone (pendingWord table n)) chargeAccounts ≡ noneFrom (pendingWord table n) k joined)
 
 abbrev μ-loop : tie.MeasureT-loop
 μ-loop table n joined₀ k₀ joined k = accountCount - k
 
 loop-holds : tie.Need-loop-holds Inv-loop μ-loop
-loop-holds c = (omega arith, no-sum-all _ _)
+unfolding chargeAccounts
+loop-holds c = (omega arith, none-all _ firstCharge)
 
 pending-requires : tie.Need-pending-requires Inv-loop μ-loop
 pending-requires c κs = search needs
@@ -34,12 +36,12 @@ loop-again c =
     let loop = c .before .before .loop in (
       omega arith,
       loop .inv .1
-          ∙ no-sum-next _ _ (loop .k) (loop .joined) (c .before .loop-test .taken)
+          ∙ none-next _ (loop .k) (loop .joined) (c .before .loop-test .taken)
           ∙ rw (c .pending .ensures),
     )
 
 returns : tie.Need-returns Inv-loop μ-loop
-returns c = sym (c .before .loop .inv .1 ∙ no-sum-done _ _ _ _ (c .loop-test .left))
+returns c = sym (c .before .loop .inv .1 ∙ none-done _ _ _ (c .loop-test .left))
 
 pub has-no-pending-spec : {M : Type 1} → statement M
 has-no-pending-spec =

@@ -1,10 +1,11 @@
--- `is_sound` meets its contract: each exit is decided by the clauses that led there, in the definition's order.
--- Assumes nothing.
+-- `is_sound` meets its contract: each exit is decided by the clauses that led there, in the definition's order; those of each action
+-- say of live ones what the last clause's test asks. Assumes nothing.
 use borrow.Author.Needs.{needs}
 use borrow.Author.Tests.{eq-eqb, ne-eqb, le-leb, lt-leb}
 use Rattle.rules.specs.Table.{mostActions}
 use Rattle.rules.specs.Sound.{sound}
 use Rattle.rules.proofs.Laws.Negated.{failed, held}
+use Rattle.soundness.proofs.LiveActions.{live-climb, live-parents}
 use Rattle.soundness.proofs.sound.is_sound.Statement.{statement}
 use Rattle.soundness.proofs.sound.is_sound.Tie as tie
 
@@ -56,7 +57,7 @@ are-sound-queues-requires c κs = search needs
 returns-5 : tie.Need-returns-5
 unfolding sound
 returns-5 c =
-    let four = c .before in
+    let four = c .before .before in
     let three = four .before .before in
     let two = three .before .before in
     rw (
@@ -65,7 +66,55 @@ returns-5 c =
       le-leb _ mostActions (two .if2 .left),
       held (three .before .are-bounded .ensures) (three .if3 .left),
       held (four .before .all-sound .ensures) (four .if4 .left),
-      c .are-sound-queues .ensures,
+      failed (c .before .are-sound-queues .ensures) (c .if5 .taken),
+    )
+
+are-newest-in-time-requires : tie.Need-are-newest-in-time-requires
+are-newest-in-time-requires c κs = search needs
+
+returns-6 : tie.Need-returns-6
+unfolding sound
+returns-6 c =
+    let five = c .before .before in
+    let four = five .before .before in
+    let three = four .before .before in
+    let two = three .before .before in
+    rw (
+      eq-eqb _ _ (two .before .before .if1 .left),
+      ← two .before .highest .ensures,
+      le-leb _ mostActions (two .if2 .left),
+      held (three .before .are-bounded .ensures) (three .if3 .left),
+      held (four .before .all-sound .ensures) (four .if4 .left),
+      held (five .before .are-sound-queues .ensures) (five .if5 .left),
+      failed (c .before .are-newest-in-time .ensures) (c .if6 .taken),
+    )
+
+all-parents-true-requires : tie.Need-all-parents-true-requires
+all-parents-true-requires c κs =
+    let four = c .before .before .before .before in
+    let two = four .before .before .before .before in
+    let each = held (four .before .all-sound .ensures) (four .if4 .left) in (
+      live-climb _ each (two .before .before .if1 .left) (rw (two .before .highest .ensures) at (two .if2 .left)),
+      live-parents _ each,
+    )
+
+returns-7 : tie.Need-returns-7
+unfolding sound
+returns-7 c =
+    let six = c .before in
+    let five = six .before .before in
+    let four = five .before .before in
+    let three = four .before .before in
+    let two = three .before .before in
+    rw (
+      eq-eqb _ _ (two .before .before .if1 .left),
+      ← two .before .highest .ensures,
+      le-leb _ mostActions (two .if2 .left),
+      held (three .before .are-bounded .ensures) (three .if3 .left),
+      held (four .before .all-sound .ensures) (four .if4 .left),
+      held (five .before .are-sound-queues .ensures) (five .if5 .left),
+      held (six .before .are-newest-in-time .ensures) (six .if6 .left),
+      c .all-parents-true .ensures,
     )
 
 pub is-sound-spec : {M : Type 1} → statement M
@@ -80,4 +129,8 @@ is-sound-spec =
     all-sound-requires
     returns-4
     are-sound-queues-requires
-    returns-5)
+    returns-5
+    are-newest-in-time-requires
+    returns-6
+    all-parents-true-requires
+    returns-7)

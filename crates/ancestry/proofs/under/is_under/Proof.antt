@@ -4,10 +4,12 @@ use native.Mathlib.Omega.{arith}
 use mathlib.Core.Path.{sym, _∙_}
 use borrow.Author.Needs.{needs}
 use borrow.Author.Tests.{eq-eqb, ne-eqb}
+use Rattle.rules.specs.Table.{mostActions}
 use Rattle.rules.specs.Walk.{isUnder}
-use Rattle.rules.proofs.Laws.Walking.{parent-store-or-live, sound-climbs, atOrBelow-store}
-use Rattle.numbers.proofs.needed.is_under.Statement.{statement}
-use Rattle.numbers.proofs.needed.is_under.Tie as tie
+use Rattle.rules.proofs.Laws.Climbing.{climbs-above}
+use Rattle.rules.proofs.Laws.Walking.{atOrBelow-store}
+use Rattle.ancestry.proofs.under.is_under.Statement.{statement}
+use Rattle.ancestry.proofs.under.is_under.Tie as tie
 
 returns : tie.Need-returns
 unfolding isUnder
@@ -24,12 +26,15 @@ returns-2 c =
 is-at-or-below-requires : tie.Need-is-at-or-below-requires
 is-at-or-below-requires c κs =
     let start = c .before .before .before .before in
-    let sound = start .pre .0 in
-    let above = parent-store-or-live sound (start .args .x) (start .pre .1 .0) (start .pre .1 .1) in
+    let x = start .args .x in
+    let (given, live) = start .pre .1 in
     let action = c .if2 .left in
     rw (c .before .parent .ensures) (
-      record { long = sound .long; few = sound .few; known = sound .known; climb = sound .climb },
-      ((omega (arith, c .before .parent .ensures), above .0), sound-climbs sound _ above),
+      start .pre .0,
+      (
+        (omega (arith, c .before .parent .ensures), start .pre .0 .known x given),
+        climbs-above _ mostActions x (λ z. omega arith) (start .pre .0 .climb x given live),
+      ),
     )
 
 returns-3 : tie.Need-returns-3

@@ -1,0 +1,50 @@
+// The clause that no newest end time is later than its counter.
+ghost use mathlib.Core.Path.{_≡_};
+ghost use Rattle.rules.specs.Range.{all};
+ghost use Rattle.rules.specs.Table.{parents};
+ghost use Rattle.rules.specs.Sound.{isNewestInTime};
+ghost use Rattle.rows.specs.Row.{HasRow, Scannable};
+use rows::fields::highest;
+use rows::fields::kind_under;
+use rows::times::counter;
+use rows::times::ends::has_no_newest;
+use rows::times::ends::is_newest_by;
+use rules::store::ACCOUNTS;
+use rules::table::STORE;
+
+fn all_in_time(table: &[u64], p: u64) -> bool
+    requires { ⌜ HasRow (now table) p ⌝ }
+    ensures { λ r. ⌜ r ≡ isNewestInTime (now (table .entry)) p ⌝ }
+{
+    let last = counter(table, kind_under(p));
+    for k in 0..ACCOUNTS {
+        if !is_newest_by(table, p, k, last) {
+            return false;
+        }
+    }
+    true
+}
+
+// Most actions have no such time at all.
+fn is_newest_in_time(table: &[u64], p: u64) -> bool
+    requires { ⌜ HasRow (now table) p ⌝ }
+    ensures { λ r. ⌜ r ≡ isNewestInTime (now (table .entry)) p ⌝ }
+{
+    if has_no_newest(table, p) {
+        return true;
+    }
+    all_in_time(table, p)
+}
+
+pub(crate) fn are_newest_in_time(table: &[u64]) -> bool
+    requires { ⌜ Scannable (now table) ⌝ }
+    ensures { λ r. ⌜ r ≡ all (isNewestInTime (now (table .entry))) (parents (now (table .entry))) ⌝ }
+{
+    let last = highest(table);
+    for p in STORE..last + 1 {
+        if !is_newest_in_time(table, p) {
+            return false;
+        }
+    }
+    true
+}
