@@ -2,6 +2,7 @@
 
 use crate::header::ACCOUNTS;
 use crate::model::{charge_of, Figures, CHARGE_ACCOUNTS, FIRST_CHARGE, NO_FIGURES, STORE};
+use crate::newest::Newest;
 use crate::times::{EndTime, Kind, Times};
 
 /// A place in a table's list of actions, in the order of their starts. Numbers are given again; places are not.
@@ -89,14 +90,16 @@ pub struct Action {
     pub own_adds: Figures,
     /// The totals of its committed children, together.
     pub kept: Figures,
+    /// The newest end times of its committed children.
+    pub newest: Newest,
 }
 
 impl Action {
     pub fn new(number: u64, parent: Parent) -> Action {
         let end = EndTime::new(parent.kind(), 0);
         let (reads, writes) = ([Read::Not(0); ACCOUNTS], [0; ACCOUNTS]);
-        let (pending, own_adds, kept) = (NO_FIGURES, NO_FIGURES, NO_FIGURES);
-        Action { number, parent, state: State::Live, end, reads, writes, pending, own_adds, kept }
+        let (pending, own_adds, kept, newest) = (NO_FIGURES, NO_FIGURES, NO_FIGURES, Newest::none(Kind::Sub));
+        Action { number, parent, state: State::Live, end, reads, writes, pending, own_adds, kept, newest }
     }
 
     pub fn kind(&self) -> Kind {
@@ -118,6 +121,15 @@ impl Action {
 
     pub fn has_read_any(&self) -> bool {
         (0..ACCOUNTS).any(|k| self.has_read(k))
+    }
+
+    /// Gives each of its reads the other kind's time for that of each kind.
+    pub fn exchange_times(&mut self) {
+        for read in &mut self.reads {
+            if let Read::At(times) = read {
+                *times = times.exchanged();
+            }
+        }
     }
 
     /// Whether it has read any account before that time.

@@ -1,15 +1,16 @@
 //! The library over its C ABI beside the second engine, in one run: rounds interleaved, medians.
 
 use crate::action::State;
+use crate::bench_verdict::{clash, clear, early, FEW, MANY};
 use crate::cause;
 use crate::dayfile::{event_bytes, run_day, MOST_EVENTS};
 use crate::generate::{day_file, events, Ending, Shape, Style, Turnover};
 use crate::header::*;
-use crate::library::{encode, Lent, COUNTERS, ENTRIES, LIVE, QUEUE_LENGTHS, READINESS, STATE};
+use crate::library::{encode, Lent, ENTRIES, LIVE, QUEUE_LENGTHS, READINESS, STATE};
 use crate::model::{put_amount, Answer, Event, Ledger, FIRST_CHARGE, STORE};
 use crate::random::Random;
 use crate::table::Table;
-use crate::times::{Kind, Times};
+use crate::times::Kind;
 use std::collections::VecDeque;
 use std::fmt::Write;
 use std::hint::black_box;
@@ -29,7 +30,7 @@ const CARD_FILL: u8 = 7;
 /// What is added, in cents.
 const ADDED_AMOUNT: i64 = 5;
 /// An account that no sibling writes; they share those below it. All above it are charge accounts.
-const FREE_ACCOUNT: u64 = CHARGE_ACCOUNT - 1;
+pub const FREE_ACCOUNT: u64 = CHARGE_ACCOUNT - 1;
 const CHARGE_ACCOUNT: u64 = FIRST_CHARGE as u64;
 /// How deep actions lie where that is measured.
 const MOVES: [u64; 3] = [1, 10, ACTIONS as u64];
@@ -37,13 +38,13 @@ const MOVES: [u64; 3] = [1, 10, ACTIONS as u64];
 const QUEUED: [u64; 2] = [1, ACTIONS as u64 - 1];
 const WAITING: Kind = Kind::Top;
 /// Where an event has no use for an account.
-const NO_ACCOUNT: u64 = 0;
+pub const NO_ACCOUNT: u64 = 0;
 /// The busy day: how many actions are started, how many are live at a time, and each how many-th reads.
 const BUSY_STARTS: u64 = 300;
 const BUSY_LIVE: usize = 8;
 const BUSY_READ_EVERY: u64 = 3;
 
-struct Row {
+pub struct Row {
     what: String,
     ours: f64,
     plain: f64,
@@ -64,30 +65,34 @@ fn time(times: u32, f: &mut dyn FnMut()) -> f64 {
     start.elapsed().as_nanos() as f64 / times as f64
 }
 
-fn measure(what: &str, ours: &mut dyn FnMut(), plain: &mut dyn FnMut()) -> Row {
-    let once = time(TRIAL_CALLS, plain).max(time(TRIAL_CALLS, ours)).max(1.0);
+/// Nanoseconds for one call of each, by rounds: in every round all of them, one after the other.
+pub fn rounds<const N: usize>(calls: &mut [&mut dyn FnMut(); N]) -> Vec<[f64; N]> {
+    let once = calls.iter_mut().map(|call| time(TRIAL_CALLS, call)).fold(1.0, f64::max);
     let times = (ROUND_NANOSECONDS / once).clamp(LEAST_CALLS, MOST_CALLS) as u32;
-    let (mut a, mut b, mut ratios) = (Vec::new(), Vec::new(), Vec::new());
-    for _ in 0..ROUNDS {
-        let (x, y) = (time(times, ours), time(times, plain));
-        a.push(x);
-        b.push(y);
-        ratios.push(x / y);
-    }
-    Row { what: what.to_string(), ours: median(a), plain: median(b), ratio: median(ratios) }
+    (0..ROUNDS).map(|_| std::array::from_fn(|i| time(times, calls[i]))).collect()
 }
 
-fn lend(w: &Ledger) -> Lent {
+/// The row of a call and of what it is held to, from their nanoseconds in each round.
+pub fn row(what: &str, rounds: &[[f64; 2]]) -> Row {
+    let of = |value: fn(&[f64; 2]) -> f64| median(rounds.iter().map(value).collect());
+    Row { what: what.to_string(), ours: of(|r| r[0]), plain: of(|r| r[1]), ratio: of(|r| r[0] / r[1]) }
+}
+
+fn measure(what: &str, ours: &mut dyn FnMut(), plain: &mut dyn FnMut()) -> Row {
+    row(what, &rounds(&mut [ours, plain]))
+}
+
+pub fn lend(w: &Ledger) -> Lent {
     let mut table = vec![0; TABLE_WORDS];
     encode(&w.table, &mut table);
     Lent { table, base: w.base.clone(), shadow: w.shadow.clone() }
 }
 
-fn new_world() -> Ledger {
+pub fn new_world() -> Ledger {
     Ledger::new(vec![BASE_FILL; BASE_BYTES], vec![0; SHADOW_BYTES])
 }
 
-fn of(code: u64, number: u64, account: u64) -> Event {
+pub fn of(code: u64, number: u64, account: u64) -> Event {
     Event { code, number, account, card: vec![CARD_FILL; CARD_BYTES] }
 }
 
@@ -98,7 +103,7 @@ fn add(number: u64, account: u64) -> Event {
 }
 
 /// An event of which we know that it is not refused.
-fn done(w: &mut Ledger, e: &Event) {
+pub fn done(w: &mut Ledger, e: &Event) {
     let answer = w.event(e);
     assert!(!matches!(answer, Answer::Refused(_)), "{e:?} is answered {answer:?}");
 }
@@ -198,7 +203,7 @@ fn chain(actions: u64) -> Ledger {
 }
 
 /// One event again and again, where after the first time it changes nothing, or pending sum and own adds alone.
-fn repeated(what: &str, mut ledger: Ledger, e: Event) -> Row {
+pub fn repeated(what: &str, mut ledger: Ledger, e: Event) -> Row {
     done(&mut ledger, &e);
     let mut lent = lend(&ledger);
     measure(
@@ -310,26 +315,23 @@ fn starts(rows: &mut Vec<Row>) {
     }
 }
 
-/// A commit of action n. Each time the action is made live again, and the counters what they were.
+/// A commit of action n. Each time the action is made live again; the counter goes on, as no end time may be above it.
 fn commits_again(rows: &mut Vec<Row>, what: &str, mut ledger: Ledger, n: u64) {
     let mut lent = lend(&ledger);
     let commit = of(EVENT_COMMIT, n, NO_ACCOUNT);
-    done(&mut ledger.clone(), &commit);
     rows.push(measure(
         what,
         &mut || {
             black_box(lent.event(&commit));
             lent.table[n as usize * ROW_WORDS + STATE] = LIVE;
-            for at in COUNTERS {
-                lent.table[at] = 0;
-            }
         },
         &mut || {
             black_box(ledger.event(&commit));
             ledger.table.action_mut(n).state = State::Live;
-            ledger.table.counters = Times::ZERO;
         },
     ));
+    let last = [lent.event(&commit), ledger.event(&commit)];
+    assert!(last.iter().all(|a| matches!(a, Answer::Committed(_))), "{what} does not pass again");
 }
 
 /// The event that enters the account in action n's write set.
@@ -525,20 +527,40 @@ fn write_between(path: &str, table: &str) -> Result<(), String> {
     std::fs::write(path, format!("{}{table}{}", &text[..from], &text[to..])).map_err(|e| format!("{path}: {e}"))
 }
 
-pub fn bench(file: Option<&str>) -> Result<(), String> {
+/// A name, and what puts its rows.
+type Part = (&'static str, fn(&mut Vec<Row>));
+
+/// The parts of the table. Those whose names begin with a word can be asked for alone.
+const PARTS: [Part; 18] = [
+    ("days", days),
+    ("events", single_events),
+    ("reads", charge_reads),
+    ("looks", looks),
+    ("searches", searches),
+    ("verdict-few-clear", clear::<FEW>),
+    ("verdict-few-clash", clash::<FEW>),
+    ("verdict-few-early", early::<FEW>),
+    ("verdict-many-clear", clear::<MANY>),
+    ("verdict-many-clash", clash::<MANY>),
+    ("verdict-many-early", early::<MANY>),
+    ("starts", starts),
+    ("commits", commits),
+    ("enters", enters),
+    ("judges", judges_behind),
+    ("judges", judges_of_all),
+    ("trees", trees),
+    ("growth", growth),
+];
+
+/// The parts whose names begin with the word, or all, printed; and put into a file where one is named.
+pub fn bench(word: Option<&str>, file: Option<&str>) -> Result<(), String> {
     let mut rows = Vec::new();
-    days(&mut rows);
-    single_events(&mut rows);
-    charge_reads(&mut rows);
-    looks(&mut rows);
-    searches(&mut rows);
-    starts(&mut rows);
-    commits(&mut rows);
-    enters(&mut rows);
-    judges_behind(&mut rows);
-    judges_of_all(&mut rows);
-    trees(&mut rows);
-    growth(&mut rows);
+    for (_, part) in PARTS.iter().filter(|(name, _)| name.starts_with(word.unwrap_or_default())) {
+        part(&mut rows);
+    }
+    if rows.is_empty() {
+        return Err(format!("bench has the parts {}", PARTS.map(|(name, _)| name).join(", ")));
+    }
     let table = table(&rows);
     print!("{table}");
     if let Some(path) = file {

@@ -9,13 +9,15 @@ use crate::header::{BASE_BYTES, CARD_BYTES, EVENT_ADD, SHADOW_BYTES, TABLE_WORDS
 use crate::kind_cases;
 use crate::library::{encode, Lent};
 use crate::model::{put_amount, Answer, Event, Ledger, CHARGE_ACCOUNTS, FIRST_CHARGE, MOST_COUNTED, NO_FIGURES, STORE};
+use crate::newest::Newest;
+use crate::newest_cases;
 use crate::number_cases;
 use crate::queue::Queue;
 use crate::queue_cases::{self, longest};
 use crate::same::{same_lent, Compared};
 use crate::scripts::check_script;
 use crate::table::Table;
-use crate::times::{Times, KINDS};
+use crate::times::{Kind, Times, KINDS};
 use crate::trees::tree;
 
 /// The ends of what an amount holds.
@@ -123,7 +125,7 @@ fn made(actions: &[Made], charge: usize) -> Table {
         a
     };
     let rows = (1..=highest).zip(actions).map(action).collect();
-    Table::lent(highest, Times::ZERO, NO_FIGURES, KINDS.map(|_| Queue::new()), rows)
+    Table::lent(highest, Times::ZERO, NO_FIGURES, Newest::none(Kind::Top), KINDS.map(|_| Queue::new()), rows)
 }
 
 fn tree_case(case: &TreeCase, charge: usize) -> Compared {
@@ -159,12 +161,13 @@ fn script_case(group: &str, name: &str, script: &str, seen: &mut Coverage) -> Co
 }
 
 fn check_scripts(seen: &mut Coverage) -> Compared {
-    for (group, cases) in queue_cases::GROUPS.iter().chain(kind_cases::GROUPS).chain(number_cases::GROUPS) {
-        for (name, script) in *cases {
+    let groups = [queue_cases::GROUPS, kind_cases::GROUPS, number_cases::GROUPS, newest_cases::GROUPS];
+    for (group, cases) in groups.concat() {
+        for (name, script) in cases {
             script_case(group, name, script, seen)?;
         }
     }
-    for (name, script) in longest().into_iter().chain(number_cases::long()) {
+    for (name, script) in longest().into_iter().chain(number_cases::long()).chain(newest_cases::long()) {
         script_case("long", name, &script, seen)?;
     }
     Ok(())

@@ -4,6 +4,7 @@ use crate::before::{Before, Joins};
 use crate::cause;
 use crate::header::{EVENT_ADD, EVENT_COMMIT, EVENT_READ};
 use crate::model::{amount_in, Answer, Event, Outcome, Shown, FIRST_CHARGE};
+use crate::newest_coverage::NewestCoverage;
 use crate::number_coverage::NumberCoverage;
 use crate::queue_coverage::QueueCoverage;
 use crate::sound::Unsound;
@@ -39,6 +40,7 @@ pub struct Coverage {
     looks_refused: BTreeMap<u64, u64>,
     queues: QueueCoverage,
     pub numbers: NumberCoverage,
+    pub newest: NewestCoverage,
     pub cases: u64,
     trees: u64,
     tree_refusals: BTreeMap<u64, u64>,
@@ -67,7 +69,7 @@ const OF_NO_KIND: [Unsound; 7] = [
     Unsound::Ring,
 ];
 /// Those that there are two of, one for each kind.
-const PER_KIND: [fn(Kind) -> Unsound; 11] = [
+const PER_KIND: [fn(Kind) -> Unsound; 13] = [
     Unsound::Counter,
     Unsound::ReadTime,
     Unsound::ReadTimeOfOther,
@@ -79,10 +81,12 @@ const PER_KIND: [fn(Kind) -> Unsound; 11] = [
     Unsound::QueuedOfOther,
     Unsound::QueuedChildLive,
     Unsound::QueuedTwice,
+    Unsound::NewestTime,
+    Unsound::NewestFalse,
 ];
 /// Those of them that an engine could take for kept, if it held the times of both kinds to one another.
-const BY_TIMES: [fn(Kind) -> Unsound; 4] =
-    [Unsound::Counter, Unsound::ReadTime, Unsound::ReadTimeOfOther, Unsound::EndTime];
+const BY_TIMES: [fn(Kind) -> Unsound; 5] =
+    [Unsound::Counter, Unsound::ReadTime, Unsound::ReadTimeOfOther, Unsound::EndTime, Unsound::NewestTime];
 
 /// The causes of a tree, each of which is shown, also with a count of 0.
 const TREE_CAUSES: [u64; 3] = [cause::STORE_LENGTH, cause::UNSOUND, cause::SUM];
@@ -143,7 +147,8 @@ impl Coverage {
         }
     }
 
-    pub fn soundness(&mut self, table: &Table) {
+    /// A lent table, and its words.
+    pub fn soundness(&mut self, table: &Table, words: &[u64]) {
         let faults: Vec<Unsound> = table.faults().into_iter().collect();
         for &clause in &faults {
             *self.unsound.entry(clause).or_default() += 1;
@@ -152,9 +157,12 @@ impl Coverage {
             [] => {
                 self.sound += 1;
                 self.numbers.sound(table);
+                self.newest.sound(table);
+                self.newest.sound_words(words);
             }
             [alone] => {
                 *self.unsound_alone.entry(alone).or_default() += 1;
+                self.newest.alone(table, alone);
                 if table.is_sound_in_mixed_times() {
                     *self.unsound_by_kind.entry(alone).or_default() += 1;
                 }
@@ -168,6 +176,7 @@ impl Coverage {
         let of = |counts: &BTreeMap<Unsound, u64>, clause| counts.get(&clause).copied().unwrap_or(0);
         let mut points = self.queues.points();
         points.extend(self.numbers.points());
+        points.extend(self.newest.points());
         points.push(("a read joined that takes its times from two".to_string(), self.joins.crossed));
         for clause in OF_NO_KIND {
             points.push((format!("{clause:?} broken alone"), of(&self.unsound_alone, clause)));
@@ -282,6 +291,7 @@ impl fmt::Display for Coverage {
         row(f, "looks refused by number", &self.looks_refused)?;
         write!(f, "{}", self.queues)?;
         write!(f, "{}", self.numbers)?;
+        write!(f, "{}", self.newest)?;
         row(f, "reads by moves up", &self.moves)?;
         row(f, "adds", &self.adds)?;
         row(f, "sums read", &self.sums)?;

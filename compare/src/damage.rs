@@ -1,5 +1,6 @@
 //! Damage to tables and stores.
 
+use crate::damage_newest::{damage_newest, mend_newest};
 use crate::damage_parents::damage_parent;
 use crate::damage_queues::{damage_queues, length, make_queue};
 use crate::generate::{any_base, busy_charge, extreme};
@@ -68,6 +69,13 @@ damages! {
     EntryOther,
     EntryTwice,
     EntryOfOtherKind,
+    NewestAboveCounter,
+    NewestWithinOther,
+    NewestEarly,
+    NewestLate,
+    NewestFree,
+    NewestOfFinished,
+    NewestAny,
 }
 
 use Damage::*;
@@ -97,6 +105,8 @@ const OTHER_OPENING: u64 = 8;
 const FIGURES_RARE: [u64; 3] = [1, 2, 8];
 /// What a store is filled up with where it grows.
 const FILL: u8 = 7;
+/// After one damage in so many the newest end times are made to fit.
+const MENDED: u64 = 2;
 
 pub fn row(words: &mut [u64], n: u64) -> &mut [u64] {
     let from = ROW_WORDS * n as usize;
@@ -113,11 +123,25 @@ pub fn beyond(r: &mut Random, limit: u64) -> u64 {
 }
 
 /// One of the numbers above a first one, up to and with a last one; None where there is none.
-fn between(r: &mut Random, above: u64, last: u64) -> Option<u64> {
+pub fn between(r: &mut Random, above: u64, last: u64) -> Option<u64> {
     (above < last).then(|| above + 1 + r.below(last - above))
 }
 
 pub fn damage(r: &mut Random, damage: Damage, lent: &mut Lent) {
+    match damage {
+        NewestAboveCounter | NewestWithinOther | NewestEarly | NewestLate | NewestFree | NewestOfFinished
+        | NewestAny => damage_newest(r, damage, &mut lent.table),
+        _ => {
+            damage_other(r, damage, lent);
+            if r.one_in(MENDED) {
+                mend_newest(&mut lent.table);
+            }
+        }
+    }
+}
+
+/// Damage to anything but the newest end times. They may be false after it.
+fn damage_other(r: &mut Random, damage: Damage, lent: &mut Lent) {
     let words = &mut lent.table;
     match damage {
         BaseLength => lent.base.resize(*r.pick(&BASE_LENGTHS), FILL),

@@ -35,7 +35,7 @@ fn expected(lent: &Lent, e: &Event, seen: &mut Coverage) -> (Answer, Lent, Resul
     };
     let mut ledger = Ledger { table, base: lent.base.clone(), shadow: lent.shadow.clone() };
     if !misfit {
-        seen.soundness(&ledger.table);
+        seen.soundness(&ledger.table, &lent.table);
     }
     let a = seen_event(&mut ledger, e, seen);
     seen.own_adds_refused += u64::from(refused_for_own_adds(&ledger, e, a));

@@ -5,19 +5,20 @@ use crate::action::{Action, Parent, Read, State};
 use crate::cause;
 use crate::header::*;
 use crate::model::{Answer, Event, Figures, Shown, Version, CHARGE_ACCOUNTS};
+use crate::newest::Newest;
 use crate::queue::{Entry, Queue};
 use crate::table::Table;
 use crate::times::{EndTime, Kind, Times, KINDS};
 use crate::tree::{Line, Tree};
 
-/// Words of row 0, the head. Counters and lengths are of each kind, in the order of `KINDS`. The store's kept sums are
-/// where those of an action are in its row.
+/// Words of row 0, the head. Counters and lengths are of each kind, in the order of `KINDS`. The store's kept sums and
+/// newest end times are where those of an action are in its row.
 pub const HIGHEST: usize = 0;
 pub const COUNTERS: [usize; KINDS.len()] = [1, 2];
 pub const QUEUE_LENGTHS: [usize; KINDS.len()] = [3, 4];
 pub const HEAD_WORDS: usize = 5;
-/// Words of row n, action n. Each set and the subaction times of the reads have a word for every account, from here on,
-/// and the pending sums, own adds and kept sums one for every charge account.
+/// Words of row n, action n. Each set, the subaction times of the reads and the newest end times have a word for every
+/// account, from here on, and the pending sums, own adds and kept sums one for every charge account.
 pub const PARENT: usize = 0;
 pub const STATE: usize = 1;
 pub const END: usize = 2;
@@ -27,6 +28,7 @@ pub const PENDING: usize = WRITES + ACCOUNTS;
 pub const OWN_ADDS: usize = PENDING + CHARGE_ACCOUNTS;
 pub const SUB_TIMES: usize = ENTRIES[Kind::Sub as usize] + ENTRY_WORDS;
 pub const KEPT: usize = SUB_TIMES + ACCOUNTS;
+pub const NEWEST: usize = KEPT + CHARGE_ACCOUNTS;
 /// Words of row i that are no part of action i: the entry at position i of each queue, from here on.
 pub const ENTRIES: [usize; KINDS.len()] = [OWN_ADDS + CHARGE_ACCOUNTS, OWN_ADDS + CHARGE_ACCOUNTS + ENTRY_WORDS];
 /// Words of an entry.
@@ -43,7 +45,7 @@ pub const LINE_NUMBER: usize = 1;
 pub const LINE_STATE: usize = 2;
 pub const LINE_FIGURES: usize = 3;
 
-const _: () = assert!(ROW_WORDS == KEPT + CHARGE_ACCOUNTS, "a row ends with the kept sums");
+const _: () = assert!(ROW_WORDS == NEWEST + ACCOUNTS, "a row ends with the newest end times");
 const _: () = assert!(TABLE_WORDS == ROW_WORDS * (ACTIONS + 1), "a table is a head and a row for each action");
 const _: () = assert!(LINE_WORDS == LINE_FIGURES + 2 * CHARGE_ACCOUNTS, "a report's line ends with the figures");
 const _: () = assert!(BLOCK_AT == LINE_WORDS * ACTIONS, "a report has room for a line of each action");
@@ -322,6 +324,15 @@ fn put_figures(figures: &Figures, words: &mut [u64]) {
     }
 }
 
+/// The newest end times of a row whose parent has children of this kind.
+fn newest(row: &[u64], kind: Kind) -> Newest {
+    Newest::new(kind, std::array::from_fn(|k| row[NEWEST + k]))
+}
+
+fn put_newest(newest: &Newest, row: &mut [u64]) {
+    row[NEWEST..NEWEST + ACCOUNTS].copy_from_slice(newest.numbers());
+}
+
 /// The action of a row, in a table of so many rows.
 fn action(row: &[u64], number: u64, rows: u64) -> Action {
     let mut a = Action::new(number, Parent::in_row(row[PARENT], number, rows));
@@ -334,6 +345,7 @@ fn action(row: &[u64], number: u64, rows: u64) -> Action {
     a.pending = figures(&row[PENDING..]);
     a.own_adds = figures(&row[OWN_ADDS..]);
     a.kept = figures(&row[KEPT..]);
+    a.newest = newest(row, Kind::Sub);
     a
 }
 
@@ -363,7 +375,8 @@ pub fn decode(words: &[u64]) -> Option<Table> {
     let actions = words.chunks(ROW_WORDS).zip(0..=rows).skip(1).map(|(row, n)| action(row, n, rows)).collect();
     let [top, sub] = COUNTERS.map(|at| words[at]);
     let queues = KINDS.map(|kind| queue(words, kind));
-    Some(Table::lent(highest, Times::new(top, sub), figures(&words[KEPT..]), queues, actions))
+    let (kept, newest) = (figures(&words[KEPT..]), newest(words, Kind::Top));
+    Some(Table::lent(highest, Times::new(top, sub), kept, newest, queues, actions))
 }
 
 fn put_action(a: &Action, parent: u64, row: &mut [u64]) {
@@ -377,6 +390,7 @@ fn put_action(a: &Action, parent: u64, row: &mut [u64]) {
     put_figures(&a.pending, &mut row[PENDING..]);
     put_figures(&a.own_adds, &mut row[OWN_ADDS..]);
     put_figures(&a.kept, &mut row[KEPT..]);
+    put_newest(&a.newest, row);
 }
 
 fn put_queue(queue: &Queue, kind: Kind, words: &mut [u64]) {
@@ -395,6 +409,7 @@ pub fn encode(t: &Table, words: &mut [u64]) {
         put_queue(t.queue(kind), kind, words);
     }
     put_figures(&t.kept, &mut words[KEPT..]);
+    put_newest(&t.newest, words);
     for (row, a) in words.chunks_mut(ROW_WORDS).skip(1).zip(t.held()) {
         put_action(a, t.parent_number(a), row);
     }

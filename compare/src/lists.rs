@@ -1,5 +1,5 @@
-//! Lists of events on both engines, event by event and in one call, with the tree that they leave, and held to the
-//! serial run.
+//! Lists of events on both engines, event by event and in one call, with the tree and the newest end times that they
+//! leave, and held to the serial run.
 
 use crate::before::Before;
 use crate::cause;
@@ -9,6 +9,7 @@ use crate::generate::{any_base, bytes, events, style};
 use crate::header::{ANSWER_WORDS, CARD_BYTES, SHADOW_BYTES, TABLE_WORDS};
 use crate::library::{answer, encode, Lent};
 use crate::model::{amount_in, base_card, Answer, Event, Leaver, Ledger, Shown, FIRST_CHARGE};
+use crate::newest_of_all::newest_of_all;
 use crate::random::Random;
 use crate::same::{same, same_bytes, same_lent, same_words, Compared};
 use crate::serial::{added_in_r, serial_run, Fed, Given};
@@ -88,7 +89,7 @@ fn committed(left: &[Leaver]) -> Vec<u64> {
     left.iter().filter(|w| w.committed).map(|w| w.number).collect()
 }
 
-/// A list, event by event; then the tree, the serial run, and the same list in one call.
+/// A list, event by event; then the tree, the newest end times, the serial run, and the same list in one call.
 fn list(opening: &Opening, events: &[Event], seen: &mut Coverage) -> Compared {
     let mut played = Played::new(opening);
     for e in events {
@@ -99,6 +100,7 @@ fn list(opening: &Opening, events: &[Event], seen: &mut Coverage) -> Compared {
     seen.lists += 1;
     seen.numbers.list(&ledger.table);
     tree_of_list(&lent, &ledger.table, &opening.base, seen)?;
+    newest_of_all(&lent, &ledger.table, seen)?;
     let fed = Fed { events, answers: &answers, left: &left };
     held_to_serial_run(opening, fed, &given, &lent.base, seen)?;
     nothing_lost(opening, fed, &lent.base, seen)?;

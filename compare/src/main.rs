@@ -4,12 +4,14 @@
 mod action;
 mod before;
 mod bench;
+mod bench_verdict;
 mod calls;
 mod cases;
 mod cause;
 mod check;
 mod coverage;
 mod damage;
+mod damage_newest;
 mod damage_parents;
 mod damage_queues;
 mod damaged;
@@ -21,6 +23,10 @@ mod kind_cases;
 mod library;
 mod lists;
 mod model;
+mod newest;
+mod newest_cases;
+mod newest_coverage;
+mod newest_of_all;
 mod number_cases;
 mod number_coverage;
 mod queue;
@@ -32,6 +38,7 @@ mod scripts;
 mod serial;
 mod shrink;
 mod sound;
+mod stale;
 mod table;
 mod times;
 mod tree;
@@ -42,6 +49,7 @@ use std::process::ExitCode;
 const USAGE: &str = "\
 usage: compare/run check [--events N] [--seed S]   both engines on N events in lists, and on other calls by that measure
        compare/run bench                           times of both, put into docs/PERFORMANCE.md
+       compare/run bench PART                      times of that part alone, as verdict, printed and not put there
        compare/run lines FILE                      the lines of a day file, by the second engine alone
        compare/run tree FILE                       its tree, likewise";
 
@@ -72,7 +80,10 @@ fn run(args: &[String]) -> Result<bool, String> {
             let events = number(args, "--events", DEFAULT_EVENTS)?;
             Ok(check::check(events, number(args, "--seed", DEFAULT_SEED)?))
         }
-        Some("bench") => bench::bench(behind(args, "--write")).map(|()| true),
+        Some("bench") => {
+            let part = args.get(1).map(String::as_str).filter(|word| !word.starts_with("--"));
+            bench::bench(part, behind(args, "--write")).map(|()| true)
+        }
         Some("lines") => dayfile::print_lines(args.get(1).ok_or(USAGE)?).map(|()| true),
         Some("tree") => dayfile::print_tree(args.get(1).ok_or(USAGE)?).map(|()| true),
         _ => Err(USAGE.to_string()),

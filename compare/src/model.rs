@@ -336,7 +336,7 @@ impl Ledger {
         Ok(kept)
     }
 
-    /// A topaction's cards and sums become the store's.
+    /// A topaction's cards and sums become the store's, and its end time is noted there.
     fn settle(&mut self, me: &Action, sums: &Sums) {
         for k in (0..ACCOUNTS).filter(|&k| me.has_card(k)) {
             self.base[base_card(k)].copy_from_slice(&self.shadow[shadow_card(me.number, k)]);
@@ -346,9 +346,10 @@ impl Ledger {
             put_amount(&mut self.base[base_card(FIRST_CHARGE + c)], sum);
         }
         self.table.kept = sums.kept;
+        self.table.newest.note(me);
     }
 
-    /// A subaction's cards, sums and sets become its parent's.
+    /// A subaction's cards, sums and sets become its parent's, and its end time is noted there.
     fn join(&mut self, parent: u64, me: &Action, sums: &Sums) {
         for k in (0..ACCOUNTS).filter(|&k| me.has_card(k)) {
             self.shadow.copy_within(shadow_card(me.number, k), shadow_card(parent, k).start);
@@ -358,6 +359,7 @@ impl Ledger {
             *pending = sum.unwrap_or(*pending);
         }
         parent.kept = sums.kept;
+        parent.newest.note(me);
         join_sets(parent, me);
     }
 

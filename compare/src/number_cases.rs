@@ -200,8 +200,8 @@ const LENT: &[Case] = &[
     (
         "a ring of three finished actions, all records",
         "+0; +0; +0; +0; w 1 0 1; w 2 1 1; w 3 2 1; c 1 = committed 1; c 2 = committed 2; c 3 = committed 3; parent 1 2;
-         parent 2 3; parent 3 1; counters 3 3; times 4 0 0 0; c 4 = committed 0; +0 = started 1; parent 3 = 3;
-         parent 2 = 3",
+         parent 2 3; parent 3 1; counters 3 3; times 4 0 0 0; newest 0 0 0; c 4 = committed 0; +0 = started 1;
+         parent 3 = 3; parent 2 = 3",
     ),
     (
         "one below a ring of finished actions",
@@ -215,7 +215,7 @@ const LENT: &[Case] = &[
     ),
     (
         "nor does it fail anybody",
-        "+0; +1; +1; w 2 0 1; c 2 = committed 1; times 3 0 0 0; parent 2 2; c 3 = committed 0",
+        "+0; +1; +1; w 2 0 1; c 2 = committed 1; times 3 0 0 0; parent 2 2; newest 1 0 0; c 3 = committed 0",
     ),
     (
         "a finished parent's record is not needed, though one reads below it",

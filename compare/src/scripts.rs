@@ -1,14 +1,15 @@
 //! Cases as scripts, in the words of docs/RULES.md, 13. A step is an event, with its answer behind ` = ` where that is
 //! not just started, written, added or entered; or something that is put into what is lent, or asked of it, between
 //! events: `entry` and `length` are of the topactions' queue, `sub-entry` and `sub-length` of the subactions', and a
-//! `kept` sum of 0 is the store's. `tree` asks for the lines of the tree, with the accounts that are not 0, each
-//! with own adds and total, and for the accounts of its last block that are not all 0. Amounts that are put are also
-//! those of the opening store. Both engines are held to every step.
+//! `kept` sum and the `newest` end times of 0 are the store's. `newest` asks for the accounts that are not 0, each with
+//! its time. `tree` asks for the lines of the tree, with the accounts that are not 0, each with own adds and total, and
+//! for the accounts of its last block that are not all 0. Amounts that are put are also those of the opening store.
+//! Both engines are held to every step.
 
 use crate::coverage::Coverage;
 use crate::header::*;
 use crate::library::{decode, encode, state_said, Lent};
-use crate::library::{COUNTERS, END, ENTRIES, ENTRY_WORDS, HIGHEST, KEPT, OWN_ADDS, PARENT};
+use crate::library::{COUNTERS, END, ENTRIES, ENTRY_WORDS, HIGHEST, KEPT, NEWEST, OWN_ADDS, PARENT};
 use crate::library::{PENDING, QUEUE_LENGTHS, READS, STATE, SUB_TIMES, WRITES};
 use crate::model::{amount_in, base_card, put_amount, Answer, Event, Ledger, Shown, FIRST_CHARGE};
 use crate::same::{same, same_lent, Compared};
@@ -141,6 +142,7 @@ impl Both {
                 *self.word(n, SUB_TIMES + account as usize) = sub as u64;
             }
             ("sub-time", &[n, account, time]) => *self.word(n, SUB_TIMES + account as usize) = time as u64,
+            ("newest", &[n, account, time]) => *self.word(n, NEWEST + account as usize) = time as u64,
             ("length" | "sub-length", &[length]) => *self.word(0, QUEUE_LENGTHS[queue(verb)]) = length as u64,
             ("entry" | "sub-entry", &[position, number, verdict, readiness]) => {
                 for (i, w) in [number, verdict, readiness].into_iter().enumerate() {
@@ -161,6 +163,16 @@ impl Both {
         }
     }
 
+    fn newest_said(&mut self, n: i128) -> String {
+        let times = (0..ACCOUNTS).map(|k| (k, *self.word(n, NEWEST + k)));
+        let said: Vec<String> = times.filter(|(_, time)| *time != 0).map(|(k, time)| format!("{k} {time}")).collect();
+        if said.is_empty() {
+            "none".to_string()
+        } else {
+            said.join(", ")
+        }
+    }
+
     /// What is asked, if the step asks something.
     fn asked(&mut self, verb: &str, numbers: &[i128]) -> Result<Option<String>, String> {
         let found = match (verb, numbers) {
@@ -176,6 +188,7 @@ impl Both {
             ("end", &[n]) => self.word(n, END).to_string(),
             ("times", &[n, account]) => self.times_said(n, account as usize),
             ("sub-time", &[n, account]) => self.word(n, SUB_TIMES + account as usize).to_string(),
+            ("newest", &[n]) => self.newest_said(n),
             ("entry" | "sub-entry", &[position]) => {
                 let first = ENTRIES[queue(verb)];
                 joined((first..first + ENTRY_WORDS).map(|field| *self.word(position, field)))

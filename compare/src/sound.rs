@@ -7,7 +7,8 @@ use crate::table::Table;
 use crate::times::{EndTime, Kind, Times, KINDS};
 use std::collections::BTreeSet;
 
-/// Why a table is not sound. Where there are two kinds of it, the kind is that of the counter, the time or the queue.
+/// Why a table is not sound. Where there are two kinds of it, the kind is that of the counter, the time or the queue; a
+/// newest end time is of the children's.
 #[derive(Clone, Copy, PartialEq, Eq, PartialOrd, Ord, Debug)]
 pub enum Unsound {
     Highest,
@@ -31,6 +32,10 @@ pub enum Unsound {
     QueuedTwice(Kind),
     /// Parents that do not lead to the store.
     Ring,
+    /// A newest end time above the counter.
+    NewestTime(Kind),
+    /// A newest end time that gives a live read another verdict than the records do.
+    NewestFalse(Kind),
 }
 
 /// What the counters and the times are held to: for each kind how many wait, and the counters.
@@ -79,6 +84,7 @@ impl Table {
                 self.action_faults(a, &mut faults);
                 self.time_faults(a, &bounds, &mut faults);
             }
+            self.newest_faults(&bounds, &mut faults);
             for kind in KINDS {
                 let counted = self.counters.number(kind).checked_add(bounds.waiting[kind as usize]);
                 faults.note(counted.is_none_or(|counted| counted > MOST_COUNTED), Unsound::Counter(kind));
@@ -121,6 +127,15 @@ impl Table {
     /// Whether they are two records of one parent, and so of one kind, that end at the same time.
     fn are_twins(&self, a: &Action, b: &Action) -> bool {
         a.end.number() == b.end.number() && a.parent == b.parent && b.is_writer() && !self.is_orphan(a)
+    }
+
+    fn newest_faults(&self, bounds: &Bounds, faults: &mut Faults) {
+        faults.note(self.newest.is_above(bounds.counters), Unsound::NewestTime(Kind::Top));
+        let is_above = self.held().any(|a| a.newest.is_above(bounds.counters));
+        faults.note(is_above, Unsound::NewestTime(Kind::Sub));
+        for read in self.misjudged_live() {
+            faults.note(true, Unsound::NewestFalse(read.parent.kind()));
+        }
     }
 
     fn queue_faults(&self, kind: Kind, faults: &mut Faults) {

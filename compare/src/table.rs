@@ -3,6 +3,7 @@
 use crate::action::{Action, Parent, Place, Read, State};
 use crate::header::{ACCOUNTS, ACTIONS};
 use crate::model::{Figures, Version, MOST_COUNTED, NO_FIGURES, STORE};
+use crate::newest::Newest;
 use crate::queue::Queue;
 use crate::times::{EndTime, Kind, Times, KINDS};
 
@@ -13,6 +14,8 @@ pub struct Table {
     pub counters: Times,
     /// The totals of the topactions that committed, together.
     pub kept: Figures,
+    /// The newest end times of the topactions that committed.
+    pub newest: Newest,
     /// The queue of each kind, in the order of `KINDS`.
     pub queues: [Queue; KINDS.len()],
     /// In the order of the starts, first those that a lent table shows, by number. Nobody is ever taken out.
@@ -23,7 +26,7 @@ pub struct Table {
 
 impl Table {
     pub fn new() -> Table {
-        Table::lent(0, Times::ZERO, NO_FIGURES, KINDS.map(|_| Queue::new()), Vec::new())
+        Table::lent(0, Times::ZERO, NO_FIGURES, Newest::none(Kind::Top), KINDS.map(|_| Queue::new()), Vec::new())
     }
 
     /// A table whose rows show these actions, by number: as many as the highest number says, if there is room for them.
@@ -31,11 +34,12 @@ impl Table {
         highest: u64,
         counters: Times,
         kept: Figures,
+        newest: Newest,
         queues: [Queue; KINDS.len()],
         actions: Vec<Action>,
     ) -> Table {
         let holders = (0..actions.len()).map(Place).collect();
-        Table { highest, counters, kept, queues, actions, holders }
+        Table { highest, counters, kept, newest, queues, actions, holders }
     }
 
     // ---- actions and numbers
@@ -85,6 +89,19 @@ impl Table {
         match n {
             STORE => Parent::Store,
             _ => Parent::Action(self.holder(n)),
+        }
+    }
+
+    /// The number of the store, or of a parent that is held.
+    pub fn number_of(&self, parent: Parent) -> u64 {
+        parent.place().map_or(STORE, |place| self.at(place).number)
+    }
+
+    pub fn is_store_or_live(&self, parent: Parent) -> bool {
+        match parent {
+            Parent::Store => true,
+            Parent::Action(place) => self.at(place).is_live(),
+            Parent::Nobody | Parent::Unknown(_) => false,
         }
     }
 
@@ -140,13 +157,8 @@ impl Table {
     /// Whether it is a record that is needed: of the store or of a live action, and somebody who is live below has read
     /// before its end.
     pub fn is_needed(&self, record: &Action) -> bool {
-        let may_fail = match record.parent {
-            Parent::Store => true,
-            Parent::Action(place) => self.at(place).is_live(),
-            Parent::Nobody | Parent::Unknown(_) => false,
-        };
         let holds = |x: &Action| x.has_read_before(record.end) && self.is_below(x, record.parent);
-        record.is_writer() && may_fail && self.live().any(holds)
+        record.is_writer() && self.is_store_or_live(record.parent) && self.live().any(holds)
     }
 
     // ---- up the parents, from live actions
@@ -156,13 +168,18 @@ impl Table {
         std::iter::successors(Some(from), |a| Some(self.at(a.parent.place()?)))
     }
 
+    /// The places of an action's parent and of those further up, whatever the table: no more than there are actions.
+    pub fn places_above(&self, a: &Action) -> impl Iterator<Item = Place> + '_ {
+        std::iter::successors(a.parent.place(), |&place| self.at(place).parent.place()).take(ACTIONS)
+    }
+
     pub fn is_below(&self, a: &Action, parent: Parent) -> bool {
         parent == Parent::Store || self.upwards(a).any(|b| b.parent == parent)
     }
 
     /// Whether it is above itself, whatever the table. One that is its own parent is not: it has none.
     pub fn is_in_ring(&self, a: &Action) -> bool {
-        self.upwards(a).skip(1).take(ACTIONS).any(|b| b.number == a.number)
+        self.places_above(a).any(|place| self.at(place).number == a.number)
     }
 
     /// Whether so many moves lead to the store, whatever the table.

@@ -65,6 +65,11 @@ impl Times {
         }
     }
 
+    /// With the number of each kind for the other's.
+    pub fn exchanged(self) -> Times {
+        Times::new(self.sub.0, self.top.0)
+    }
+
     /// Of a read under these counters: whether its time of this kind is above the counter of this kind.
     pub fn is_above(self, counters: Times, kind: Kind) -> bool {
         match kind {
