@@ -3,7 +3,6 @@ mod AccountReads
 mod BothKinds
 mod HeldEnds
 mod LiveActions
-mod NewestWords
 mod PendingWords
 mod QueueNumbers
 mod ReadTimes

@@ -7,12 +7,11 @@ ghost use Rattle.rows.specs.Row.{HasRow, Scannable};
 use rows::fields::highest;
 use rows::fields::kind_under;
 use rows::times::counter;
-use rows::times::ends::has_no_newest;
 use rows::times::ends::is_newest_by;
 use rules::store::ACCOUNTS;
 use rules::table::STORE;
 
-fn all_in_time(table: &[u64], p: u64) -> bool
+fn is_newest_in_time(table: &[u64], p: u64) -> bool
     requires { ⌜ HasRow (now table) p ⌝ }
     ensures { λ r. ⌜ r ≡ isNewestInTime (now (table .entry)) p ⌝ }
 {
@@ -23,17 +22,6 @@ fn all_in_time(table: &[u64], p: u64) -> bool
         }
     }
     true
-}
-
-// Most actions have no such time at all.
-fn is_newest_in_time(table: &[u64], p: u64) -> bool
-    requires { ⌜ HasRow (now table) p ⌝ }
-    ensures { λ r. ⌜ r ≡ isNewestInTime (now (table .entry)) p ⌝ }
-{
-    if has_no_newest(table, p) {
-        return true;
-    }
-    all_in_time(table, p)
 }
 
 pub(crate) fn are_newest_in_time(table: &[u64]) -> bool

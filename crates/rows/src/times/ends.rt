@@ -38,18 +38,6 @@ fn newest(table: &[u64], p: u64, k: u64) -> u64
     get(table, p, NEWEST_FIELDS + k)
 }
 
-// The words as one, so that the loop has no branch.
-pub fn has_no_newest(table: &[u64], p: u64) -> bool
-    requires { ⌜ HasRow (now table) p ⌝ }
-    ensures { λ r. ⌜ r ≡ all (λ k. eqb (newest (now (table .entry)) p k) 0) accounts ⌝ }
-{
-    let mut joined = NO_END;
-    for k in 0..ACCOUNTS {
-        joined |= newest(table, p, k);
-    }
-    joined == NO_END
-}
-
 // p's newest end time for the account is this.
 pub fn is_newest(table: &[u64], p: u64, k: u64, end: u64) -> bool
     requires { ⌜ HasRow (now table) p ⌝ }
