@@ -2,15 +2,20 @@
 -- Assumes nothing.
 use Prim.Native.Nat.{ℕ, max}
 use mathlib.Core.Path.{_≡_}
-use mathlib.Core.Bool.{cond}
+use mathlib.Core.Bool.{Bool, cond}
 use mathlib.Core.List.{List}
+use lib.Dec.{eqb}
 use lib.ListN.{getD, set}
-use Rattle.rules.specs.Range.{fold}
+use Rattle.rules.specs.Range.{all, fold}
 use Rattle.rules.specs.Card.{accounts}
 use Rattle.rules.specs.Kind.{kindUnder}
-use Rattle.rules.specs.Table.{endTime, hasWritten}
+use Rattle.rules.specs.Table.{endTime, hasWritten, newest}
 use Rattle.rows.specs.declared.times.Time.{Time}
 use Rattle.rows.specs.Times.{kindIn}
+
+-- p has none: no child of its has written any account
+abbrev pub hasNoNewest : List ℕ → ℕ → Bool
+hasNoNewest w p = all (λ k. eqb (newest w p k) 0) accounts
 
 -- such a row once m's end has been counted in for account k: where m has written k the later of the two stands there
 abbrev pub raisedEnd : List ℕ → ℕ → ℕ → List ℕ → List ℕ

@@ -3,6 +3,7 @@ mod AccountReads
 mod BothKinds
 mod HeldEnds
 mod LiveActions
+mod NewestWords
 mod PendingWords
 mod QueueNumbers
 mod ReadTimes

@@ -12,7 +12,7 @@ ghost use Rattle.rules.specs.Table.{newest, readTime};
 ghost use Rattle.rules.specs.Stale.{isKnownStale};
 ghost use Rattle.rows.specs.Row.{HasRow};
 ghost use Rattle.rows.specs.Times.{numberIn, HasRead};
-ghost use Rattle.rows.specs.Ends.{raisedEnd, raisedEnds, IsOfChildrenOf, IsEndOf};
+ghost use Rattle.rows.specs.Ends.{hasNoNewest, raisedEnd, raisedEnds, IsOfChildrenOf, IsEndOf};
 use crate::fields::has_written;
 use crate::times::Time;
 use crate::times::number_of;
@@ -36,6 +36,18 @@ fn newest(table: &[u64], p: u64, k: u64) -> u64
     ensures { λ r. ⌜ r ≡ newest (now (table .entry)) p k ⌝ }
 {
     get(table, p, NEWEST_FIELDS + k)
+}
+
+// The words as one, so that the loop has no branch.
+pub fn has_no_newest(table: &[u64], p: u64) -> bool
+    requires { ⌜ HasRow (now table) p ⌝ }
+    ensures { λ r. ⌜ r ≡ hasNoNewest (now (table .entry)) p ⌝ }
+{
+    let mut joined = NO_END;
+    for k in 0..ACCOUNTS {
+        joined |= newest(table, p, k);
+    }
+    joined == NO_END
 }
 
 // p's newest end time for the account is this.
