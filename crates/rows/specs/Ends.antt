@@ -11,7 +11,7 @@ use Rattle.rules.specs.Card.{accounts}
 use Rattle.rules.specs.Kind.{kindUnder}
 use Rattle.rules.specs.Table.{endTime, hasWritten, newest}
 use Rattle.rows.specs.declared.times.Time.{Time}
-use Rattle.rows.specs.Times.{kindIn}
+use Rattle.rows.specs.Times.{kindIn, numberIn}
 
 -- p has none: no child of its has written any account
 abbrev pub hasNoNewest : List ℕ → ℕ → Bool
@@ -30,5 +30,5 @@ abbrev pub IsOfChildrenOf : Time → ℕ → Type 0
 IsOfChildrenOf t p = kindIn t ≡ kindUnder p
 
 -- this is m's end time
-abbrev pub IsEndOf : List ℕ → ℕ → ℕ → Type 0
-IsEndOf w m own = own ≡ endTime w m
+abbrev pub IsEndOf : List ℕ → ℕ → Time → Type 0
+IsEndOf w m own = numberIn own ≡ endTime w m

@@ -14,18 +14,25 @@ ghost use Rattle.rows.specs.Row.{HasRow};
 ghost use Rattle.rows.specs.Times.{numberIn, HasRead};
 ghost use Rattle.rows.specs.Ends.{hasNoNewest, raisedEnd, raisedEnds, IsOfChildrenOf, IsEndOf};
 use crate::fields::has_written;
+use crate::fields::kind_under;
 use crate::times::Time;
-use crate::times::number_of;
-use crate::times::sub::sub_number;
+use crate::times::end_of;
+use crate::times::newest::read_before_newest;
+use crate::times::sub::later_sub_end;
+use crate::times::sub::sub_before;
+use crate::times::sub::sub_in_row;
+use crate::times::sub::sub_newest;
 use crate::times::sub::sub_read;
-use crate::times::top::top_number;
+use crate::times::top::later_top_end;
+use crate::times::top::top_before;
+use crate::times::top::top_in_row;
+use crate::times::top::top_newest;
 use crate::times::top::top_read;
 use crate::words::get;
 use rules::store::ACCOUNTS;
-use rules::table::END_FIELD;
 use rules::table::NEWEST_FIELDS;
 use rules::table::NO_END;
-use rules::table::STORE;
+use rules::table::TOP;
 
 // The words of a row: one for each account.
 pub const ENDS_LENGTH: usize = 32;
@@ -66,17 +73,24 @@ pub fn is_newest_by(table: &[u64], p: u64, k: u64, t: Time) -> bool
     requires { ⌜ IsOfChildrenOf t p ⌝ }
     ensures { λ r. ⌜ r ≡ leb (newest (now (table .entry)) p k) (numberIn t) ⌝ }
 {
-    newest(table, p, k) <= number_of(t)
+    match t {
+        Time::Top(t) => !top_before(t, top_newest(table, p, k)),
+        Time::Sub(t) => !sub_before(t, sub_newest(table, p, k)),
+    }
 }
 
-fn later_end(own: u64, end: u64) -> u64
-    ensures { λ r. ⌜ r ≡ max own end ⌝ }
+// The later of two end times of one kind, the second of which stands in a row.
+fn later_end(own: Time, end: u64) -> u64
+    ensures { λ r. ⌜ r ≡ max (numberIn own) end ⌝ }
 {
-    if own < end { end } else { own }
+    match own {
+        Time::Top(own) => later_top_end(own, end),
+        Time::Sub(own) => later_sub_end(own, end),
+    }
 }
 
 // Where m, whose end time this is, has written the account, it is counted in.
-fn raise_end(ends: &mut [u64; ENDS_LENGTH], table: &[u64], m: u64, k: u64, own: u64)
+fn raise_end(ends: &mut [u64; ENDS_LENGTH], table: &[u64], m: u64, k: u64, own: Time)
     requires { ⌜ HasRow (now table) m ⌝ }
     requires { ⌜ IsAccount k ⌝ }
     requires { ⌜ IsEndOf (now table) m own ⌝ }
@@ -92,7 +106,7 @@ pub fn raise_ends(ends: &mut [u64; ENDS_LENGTH], table: &[u64], m: u64)
     requires { ⌜ HasRow (now table) m ⌝ }
     ensures { λ r. ⌜ now (ends .exit) ≡ raisedEnds (now (table .entry)) m (now (ends .entry)) ⌝ }
 {
-    let own = get(table, m, END_FIELD);
+    let own = end_of(table, m);
     for k in 0..ACCOUNTS {
         raise_end(ends, table, m, k, own);
     }
@@ -111,17 +125,26 @@ pub fn are_newest(table: &[u64], p: u64, ends: &[u64; ENDS_LENGTH]) -> bool
     joined == NO_END
 }
 
-// The number of the time of m's read of the account that is of the kind of p's children.
-fn read_number(table: &[u64], p: u64, m: u64, k: u64) -> u64
+// m's read of the account is from before this end of a child of p's: the time of the read is that of the kind of p's children.
+fn read_before_row(table: &[u64], m: u64, p: u64, k: u64, end: u64) -> bool
     requires { ⌜ HasRow (now table) m ⌝ }
     requires { ⌜ IsAccount k ⌝ }
     requires { ⌜ HasRead (now table) m k ⌝ }
-    ensures { λ r. ⌜ r ≡ readTime (now (table .entry)) (kindUnder p) m k ⌝ }
+    ensures { λ r. ⌜ r ≡ ltb (readTime (now (table .entry)) (kindUnder p) m k) end ⌝ }
 {
-    if p == STORE {
-        return top_number(top_read(table, m, k));
+    if kind_under(p) == TOP {
+        return top_before(top_read(table, m, k), top_in_row(end));
     }
-    sub_number(sub_read(table, m, k))
+    sub_before(sub_read(table, m, k), sub_in_row(end))
+}
+
+fn are_alike(a: bool, b: bool) -> bool
+    ensures { λ r. ⌜ r ≡ Bool·beq a b ⌝ }
+{
+    if a {
+        return b;
+    }
+    !b
 }
 
 // m's read of the account is from before p's newest end time exactly where it is from before this end.
@@ -134,9 +157,7 @@ pub fn is_told_alike(table: &[u64], p: u64, m: u64, k: u64, end: u64) -> bool
         ≡ Bool·beq (isKnownStale (now (table .entry)) p k (readTime (now (table .entry)) (kindUnder p) m k))
         (ltb (readTime (now (table .entry)) (kindUnder p) m k) end) ⌝ }
 {
-    let read = read_number(table, p, m, k);
-    if read < newest(table, p, k) {
-        return read < end;
-    }
-    end <= read
+    let known = read_before_newest(table, m, p, k);
+    let held = read_before_row(table, m, p, k, end);
+    are_alike(known, held)
 }

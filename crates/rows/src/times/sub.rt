@@ -1,7 +1,7 @@
 // Subaction times: the subactions' counter, their end times, the newest of them under an action, and the other of the two times
 // of every read. The number in one is known in this file alone, so no time of the other kind can be compared with it.
 ghost use mathlib.Core.Path.{_≡_};
-ghost use Prim.Native.Nat.{_+_};
+ghost use Prim.Native.Nat.{_+_, max};
 ghost use lib.Dec.{eqb, ltb};
 ghost use Rattle.rules.specs.Card.{IsAccount};
 ghost use Rattle.rules.specs.Kind.{subKind};
@@ -83,6 +83,22 @@ pub(crate) fn set_sub_end(table: &mut [u64], m: u64, t: SubTime)
     ensures { λ r. ⌜ now (table .exit) ≡ withEndTime (now (table .entry)) m (t .0) ⌝ }
 {
     put(table, m, END_FIELD, t.0);
+}
+
+// A word of a row of such end times, and the later of one of them and another, as such a word.
+pub(crate) fn sub_in_row(end: u64) -> SubTime
+    ensures { λ r. ⌜ r .0 ≡ end ⌝ }
+{
+    SubTime(end)
+}
+
+pub(crate) fn later_sub_end(t: SubTime, end: u64) -> u64
+    ensures { λ r. ⌜ r ≡ max (t .0) end ⌝ }
+{
+    if sub_before(t, sub_in_row(end)) {
+        return end;
+    }
+    t.0
 }
 
 // The newest end time of p's children for the account.

@@ -11,7 +11,7 @@ use borrow.Author.Tests.{eqb-true, leb-true, leb-false, eq-eqb}
 use lib.Dec.{eqb, leb}
 use Rattle.rules.specs.Card.{accountCount, IsCharge, accounts}
 use Rattle.rules.specs.Kind.{IsKind}
-use Rattle.rules.specs.Table.{hasEnd, width, mostActions, live, committed, aborted, word, highestField, highest, counterField, counter, lastTime, parentField, parentOf, kindOf, stateField, stateOf, withState, endField, endTime, readField, readEntry, hasRead, subTimeField, readTime, writeField, writeEntry, entered, hasWritten, hasWrites, pendingField, pendingWord, isLive, isCommitted, isRecordOf, newest, newestField, isChildOf}
+use Rattle.rules.specs.Table.{hasEnd, width, mostActions, live, committed, aborted, word, highestField, highest, counterField, counter, lastTime, parentField, parentOf, kindOf, stateField, stateOf, withState, endField, endTime, readField, readEntry, hasRead, subTimeField, readTime, writeField, writeEntry, entered, hasWritten, hasWrites, pendingField, pendingWord, isLive, isCommitted, isRecordOf, newest, newestField}
 use Rattle.rules.specs.Queue.{queueLengthField, queueLength, isQueued}
 use Rattle.rules.specs.Sound.{hasState, IsGiven, Sound}
 use Rattle.rules.specs.Ledger.{Ledger}
@@ -25,6 +25,8 @@ use Rattle.rules.proofs.Laws.Queue.{SameLine}
 use Rattle.rules.proofs.Copies.Turns.{addedWord}
 use Rattle.rules.proofs.Sound.TableChanges.{ReadsFrom, Bounded, bounds-stay, TableChange, Ended, SumStays, sum-stays, line-stays, writes-agree, live-uncommitted, same-read, RowKept, calm-newest, ReadFrom, NewestStays, action-width, child's, NewestNow, own}
 use Rattle.rules.proofs.Sound.Committing.{commit-length, commit-highest, commit-parent, commit-keeps-row, commit-keeps-sets, commit-keeps-others, commit-line, commit-counter, commit-other-counter, commit-state, commit-end, commit-read, commit-read-time, commit-write, commit-pending, commit-noted, commit-unnoted}
+use Rattle.rules.proofs.Clash.Records.{record-parent}
+use Rattle.rules.proofs.Sound.NewestKept.{record-committed}
 
 -- ---- one action finishes: what its state alone gives of a change
 
@@ -204,10 +206,6 @@ module _ (ledger : Ledger) (s : Sound (ledger .table)) (n : ℕ) (j : Committabl
   pass-parent : (m : ℕ) → parentOf passed m ≡ parentOf w m
   pass-parent = commit-parent ledger n parent (j .own .0)
 
-  record-parent : (p : ℕ) → isRecordOf passed p n ≡ true → parentOf passed n ≡ p
-  unfolding isRecordOf
-  record-parent p is = eqb-true _ _ (and-left (isChildOf passed p n) (hasEnd passed n) is)
-
   parent-noted : (k : ℕ) → k < accountCount → hasWritten w n k ≡ true → newest passed parent k ≡ commitTime w n
   parent-noted =
       commit-noted ledger n parent (j .own .0) (s .long) n-few (omega (arith, parent-given, s .few)) (λ z. not-own-parent j (sym z))
@@ -314,12 +312,9 @@ module _ (ledger : Ledger) (s : Sound (ledger .table)) (n : ℕ) (j : Committabl
       ap (λ x. not (eqb x 0))
       (commit-keeps-sets ledger n parent (j .own .0) (λ z. not-own-parent j (sym z)) (writeField k) (omega arith) (omega arith))
 
-  -- a record that had not committed is the one that commits
-  new-record : (p m : ℕ) → IsGiven w m → isRecordOf passed p m ≡ true → m ≢ n → isCommitted w m ≡ true
-  unfolding isRecordOf
-  new-record p m begun is other =
-      rw (pass-others m (begun .0) other) at
-      (and-left (isCommitted passed m) (hasWrites passed m) (and-right (isChildOf passed p m) (hasEnd passed m) is))
+  -- any other record had committed
+  old-record : (p m : ℕ) → IsGiven w m → isRecordOf passed p m ≡ true → m ≢ n → isCommitted w m ≡ true
+  old-record p m begun is other = rw (pass-others m (begun .0) other) at (record-committed passed p m is)
 
   -- where n has not written k, or isn't p's child, p's records with k are those that there were
   stays :
@@ -335,7 +330,7 @@ module _ (ledger : Ledger) (s : Sound (ledger .table)) (n : ℕ) (j : Committabl
           (m : ℕ) → IsGiven w m → isRecordOf passed p m ≡ true → hasWritten passed m k ≡ true → Dec (m ≡ n) →
           isCommitted w m ≡ true
       by-number m begun is written (yes e) = absurd (none (rw e at is) (rw e at written))
-      by-number m begun is written (no other) = new-record p m begun is other
+      by-number m begun is written (no other) = old-record p m begun is other
 
   -- .. and where it is and has, its end time is the newest
   noted-now : (k : ℕ) → k < accountCount → hasWritten w n k ≡ true → NewestNow w passed parent k
@@ -370,7 +365,7 @@ module _ (ledger : Ledger) (s : Sound (ledger .table)) (n : ℕ) (j : Committabl
           inl
           (stays p k
           (commit-keeps-others ledger n parent (j .own .0) p other (newestField k) (omega arith) (omega arith))
-          (λ is _. other (sym (record-parent p is) ∙ pass-parent n)))
+          (λ is _. other (sym (record-parent passed p n is) ∙ pass-parent n)))
 
   -- an account that n has written enters the parent's write set; any other keeps its entry and its sum there
   parent-sums : 1 ≤ parent → (k : ℕ) → IsCharge k → SumStays w passed parent k

@@ -7,25 +7,25 @@ use mathlib.Core.Path.{_≡_, sym, ap, _∙_}
 use mathlib.Core.Logic.{_⊎_, inl, ⊎-elim}
 use mathlib.Core.Bool.{true}
 use mathlib.Core.List.{List}
-use borrow.Author.Tests.{lt-ltb, le-ltb, eqb-true}
+use borrow.Author.Tests.{lt-ltb, le-ltb}
 use lib.Dec.{ltb}
 use Rattle.rules.specs.Card.{accountCount}
 use Rattle.rules.specs.Kind.{kindUnder}
-use Rattle.rules.specs.Table.{highest, counter, parentField, parentOf, stateField, endField, endTime, hasRead, readTime, writeField, hasWrites, newest, isCommitted, hasEnd, isChildOf, isRecordOf}
+use Rattle.rules.specs.Table.{highest, counter, parentField, stateField, endField, endTime, hasRead, readTime, writeField, hasWrites, newest, isCommitted, isRecordOf}
 use Rattle.rules.specs.Walk.{isUnder}
 use Rattle.rules.specs.Stale.{isStale, isKnownStale}
 use Rattle.rules.specs.Sound.{IsGiven, IsLiveAction, StoreOrLive, Sound}
-use Rattle.rules.proofs.Laws.Tests.{and-left, and-right, same-test, false-of-not-true}
+use Rattle.rules.proofs.Laws.Tests.{and-left, same-test, false-of-not-true}
 use Rattle.rules.proofs.Laws.Kinds.{kind-known}
 use Rattle.rules.proofs.Laws.Under.{under-further, under-agree}
 use Rattle.rules.proofs.Laws.Staleness.{Overwrites, stale-by, stale-record}
 use Rattle.rules.proofs.Sound.TableChanges.{ReadFrom, own, child's, made-now, RowKept, NewestStays, NewestNow, TableChange, writes-agree}
+use Rattle.rules.proofs.Clash.Records.{record-parent, record-has-end}
 
 -- ---- records
 
 pub record-committed : (w : List ℕ) (p m : ℕ) → isRecordOf w p m ≡ true → isCommitted w m ≡ true
-unfolding isRecordOf
-record-committed w p m is = and-left (isCommitted w m) (hasWrites w m) (and-right (isChildOf w p m) (hasEnd w m) is)
+record-committed w p m is = and-left (isCommitted w m) (hasWrites w m) (record-has-end w p m is)
 
 pub record-kept : (w v : List ℕ) (p m : ℕ) → RowKept w v m → isRecordOf v p m ≡ isRecordOf w p m
 unfolding isRecordOf
@@ -56,16 +56,14 @@ Alike w p k t = isKnownStale w p k t ≡ isStale w p k t
 -- a read as late as the counter is stale by neither
 pub alike-late :
     {w : List ℕ} → Sound w → (p k t : ℕ) → p ≤ highest w → k < accountCount → counter w (kindUnder p) ≤ t → Alike w p k t
-unfolding isRecordOf
 alike-late {w} s p k t known account late =
     le-ltb t (newest w p k) (omega (arith, s .newestInTime p k known account))
     ∙ sym
     (false-of-not-true _
     (λ is.
     let (m, o) = stale-record w p k t is in
-    let ended = and-right (isChildOf w p m) (hasEnd w m) (o .isRecord) in
-    let parent = eqb-true (parentOf w m) p (and-left (isChildOf w p m) (hasEnd w m) (o .isRecord)) in
-    let in-time : endTime w m ≤ counter w (kindUnder p) = rw parent at (s .ends m (o .begun) ended .1) in
+    let ended = s .ends m (o .begun) (record-has-end w p m (o .isRecord)) .1 in
+    let in-time : endTime w m ≤ counter w (kindUnder p) = rw (record-parent w p m (o .isRecord)) at ended in
     omega (arith, o .later)))
 
 -- ---- a change

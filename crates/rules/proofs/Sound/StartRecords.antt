@@ -7,16 +7,16 @@ use mathlib.Core.Path.{_≡_, refl, sym, ap, _∙_}
 use mathlib.Core.Logic.{inl, inr, _≢_}
 use mathlib.Core.Bool.{Bool, true, false, not, cond}
 use mathlib.Core.List.{List}
-use borrow.Author.Tests.{eqb-true, eq-eqb, le-ltb}
+use borrow.Author.Tests.{eq-eqb, le-ltb}
 use lib.Dec.{eqb, ltb}
 use Rattle.rules.specs.Card.{accountCount}
 use Rattle.rules.specs.Kind.{kindUnder}
-use Rattle.rules.specs.Table.{highest, counter, parentField, parentOf, stateField, endTime, readField, readEntry, hasRead, subTimeField, subTime, readTime, newestField, newest, isLive, isCommitted, hasEnd, isChildOf, isRecordOf}
+use Rattle.rules.specs.Table.{highest, counter, parentField, parentOf, stateField, endTime, readField, readEntry, hasRead, subTimeField, subTime, readTime, newestField, newest, isLive, isCommitted, isChildOf, isRecordOf}
 use Rattle.rules.specs.Walk.{isUnder}
 use Rattle.rules.specs.Stale.{isStale, isKnownStale}
 use Rattle.rules.specs.Sound.{IsGiven, IsLiveAction, StoreOrLive, Sound}
 use Rattle.rules.specs.Step.{giveTable}
-use Rattle.rules.proofs.Laws.Tests.{and-left, not-both, same-test, false-of-not-true}
+use Rattle.rules.proofs.Laws.Tests.{not-both, same-test, false-of-not-true}
 use Rattle.rules.proofs.Laws.Kinds.{kind-known}
 use Rattle.rules.proofs.Laws.Walking.{parent-store-or-live}
 use Rattle.rules.proofs.Laws.Under.{under-agree}
@@ -27,6 +27,7 @@ use Rattle.rules.proofs.Sound.TableChanges.{live-uncommitted, action-wi
 use Rattle.rules.proofs.Sound.NewestKept.{record-committed, overwrites-on}
 use Rattle.rules.proofs.Sound.Giving.{give-keeps-row, give-head, give-counter, give-highest, give-read, give-newest}
 use Rattle.rules.proofs.Sound.Started.{start-highest, by-age, old-field, live-row, old-parent, old-row, new-live}
+use Rattle.rules.proofs.Clash.Records.{record-parent}
 
 module _ (w : List ℕ) (n p : ℕ) (s : Sound w) (g : Givable w n) where
   abbrev v : List ℕ
@@ -71,24 +72,19 @@ module _ (w : List ℕ) (n p : ℕ) (s : Sound w) (g : Givable w n) where
 
   -- a record of the store or of a live action that isn't the number's keeps its row
   record-row-kept : {Q m : ℕ} → StoreOrLive w Q → IsGiven w m → isRecordOf w Q m ≡ true → m ≢ n → RowKept w v m
-  unfolding isRecordOf
   record-row-kept {Q} {m} held begun is other f inside =
       give-keeps-row w n p m f (action-width f inside) (begun .0) other
-      (λ same. held-other held (sym (eqb-true (parentOf w m) Q (and-left (isChildOf w Q m) (hasEnd w m) is)) ∙ same))
+      (λ same. held-other held (sym (record-parent w Q m is) ∙ same))
 
   -- who has committed isn't the new one
   pub committed-other : (m : ℕ) → isCommitted v m ≡ true → m ≢ n
   committed-other m did new = live-uncommitted v n (new-live w n p s g) (rw new at did)
 
-  record-parent : (Q m : ℕ) → isRecordOf v Q m ≡ true → parentOf v m ≡ Q
-  unfolding isRecordOf
-  record-parent Q m is = eqb-true (parentOf v m) Q (and-left (isChildOf v Q m) (hasEnd v m) is)
-
   -- a record of the store or of a live action was one before: an orphan is its own parent, and has finished
   module _ {Q m : ℕ} (held : StoreOrLive w Q) (begun : IsGiven v m) (is : isRecordOf v Q m ≡ true) where
     not-its-own-parent : parentOf v m ≢ m
     not-its-own-parent own =
-        let same : m ≡ Q = sym own ∙ record-parent Q m is in
+        let same : m ≡ Q = sym own ∙ record-parent v Q m is in
         let one : 1 ≤ Q = rw (← same) (begun .0) in
         live-uncommitted v Q (rw (live-kept Q ((one, held .0), held .1 one) stateField (inl (omega arith))) (held .1 one))
         (rw same at (record-committed v Q m is))
@@ -106,7 +102,7 @@ module _ (w : List ℕ) (n p : ℕ) (s : Sound w) (g : Givable w n) where
       by-age w n p s g (λ x. parentOf v x ≡ n → x ≢ n → ⊥)
       (λ x old child other. by-child x other (isChildOf w n x) refl (sym (old-parent w n p s g x old) ∙ child))
       (λ _ new. new refl)
-      m begun (record-parent n m is) (committed-other m (record-committed v n m is))
+      m begun (record-parent v n m is) (committed-other m (record-committed v n m is))
     where
       by-child : (x : ℕ) → x ≢ n → (b : Bool) → isChildOf w n x ≡ b → cond b x (parentOf w x) ≡ n → ⊥
       by-child x other true child own = other own

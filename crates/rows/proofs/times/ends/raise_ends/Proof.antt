@@ -17,8 +17,8 @@ Inv-loop ends₀ table m own k₀ ends k = raisedEnds table m ends₀ ≡ fold (
 abbrev μ-loop : tie.MeasureT-loop
 μ-loop ends₀ table m own k₀ ends k = accountCount - k
 
-get-requires : tie.Need-get-requires Inv-loop μ-loop
-get-requires c κs = search needs
+end-of-requires : tie.Need-end-of-requires Inv-loop μ-loop
+end-of-requires c κs = search needs
 
 loop-holds : tie.Need-loop-holds Inv-loop μ-loop
 unfolding raisedEnds accounts
@@ -48,7 +48,7 @@ raise-ends-spec =
     (tie.spec
     Inv-loop
     μ-loop
-    get-requires
+    end-of-requires
     loop-holds
     raise-end-requires
     add-k
