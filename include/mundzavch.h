@@ -26,17 +26,26 @@
  *   13  an add to an account below 24, or a write to one from 24 on
  *   14  an add of an amount below -1,000,000 or above 1,000,000
  *   15  a sum that 64 signed bits do not hold: the pending sum or the own adds that an add would leave, the sum that a
- *       read would give, or one that a commit without a clash would leave at the parent or in the store, pending or
- *       kept, where the action stays live; or a total of a tree
+ *       read would give, or one that a commit which does not fail would leave at the parent or in the store, pending
+ *       or kept, where the action stays live; or a total of a tree
  *   16  any event but a judge or an abort, and the number names an action in a queue
  *   17  a judge, and the action is not in its queue, or is ready already
  *   18  a commit while the queue for that kind of action is not empty
  *   19  a commit or an enter when the counter of that kind of action and the length of its queue come to 4,000,000,000
- * An event's refusals are asked in the order 1 to 8, 13, 14, 9, 16 to 19, 15, and the first that applies is given. A
- * list asks 1, 2, then 10. A day asks 1, then 2 for the table's length alone, then its file, in an order of its own: 10
- * where it is empty, 11 for the count of cards, 10 where it ends before the count of events, 11 for that count, 10 for
- * its length, 12 for its accounts. So a file of the one byte 33 is cut, and is refused 11. A tree asks 1, also for the
- * opening store, then 2, then 15; a day's tree asks 1 likewise, and then what a day asks.
+ *   20  an opening under a rule that is neither 1 nor 2
+ *   21  an enter or a judge, and the table is under rule 2
+ * An event's refusals are asked in the order 1 to 3, 21, 4 to 8, 13, 14, 9, 16 to 19, 15, and the first that applies is
+ * given. A list asks 1, 2, then 10, an opening 2, then 20. A day asks 1, then 2 for the table's length alone, then its
+ * file, in an order of its own: 10 where it is empty, 11 for the count of cards, 10 where it ends before the count of
+ * events, 11 for that count, 10 for its length, 12 for its accounts. So a file of the one byte 33 is cut, and is
+ * refused 11. A tree asks 1, also for the opening store, then 2, then 15; a day's tree asks 1 likewise, and then what a
+ * day asks.
+ *
+ * A table judges commits by one of two rules, from its opening on. Under rule 1 it judges backwards: a commit fails
+ * where a child of the action's parent has committed what the action had read before. Under rule 2 it judges forwards:
+ * a commit fails where an action that is still live below its parent, whoever it is but itself, has read what it would
+ * change, so that it is the writer who gives way; there are no queues under rule 2. Both give every read of an action
+ * that is committed all the way up the card that it would be given if such actions ran one after the other.
  *
  * Numbers are given again, so a table may see any number of actions. A start gives the lowest number that is free, and
  * a number means the action that got it last. It is free where it was never given, or where its action has finished and
@@ -74,7 +83,7 @@
 extern "C" {
 #endif
 
-/* Sizes. compare/build.rs reads these lines, and the values of the two enums below: plain numbers, one to a line. */
+/* Sizes. compare/build.rs reads these lines, and the values of the three enums below: plain numbers, one to a line. */
 #define MUNDZAVCH_ACTIONS 64          /* that have a number at a time: 1 to 64 */
 #define MUNDZAVCH_ACCOUNTS 32         /* numbered from 0 */
 #define MUNDZAVCH_ROW_WORDS 161       /* uint64_t words in a row of a table: a head, then a row for each number, with
@@ -91,6 +100,12 @@ extern "C" {
                                          each of the accounts 24 to 31 */
 #define MUNDZAVCH_BLOCK_AT 1216       /* where its last block begins */
 #define MUNDZAVCH_BLOCK_WORDS 4       /* in a line of the last block: account, opening, sum, closing */
+
+/* The rules by which a table may judge commits. */
+enum {
+    MUNDZAVCH_RULE_BACKWARD = 1,
+    MUNDZAVCH_RULE_FORWARD = 2
+};
 
 /* Codes of the events. `number` is the action, or the parent for a start, 0 for the store. */
 enum {
@@ -112,8 +127,10 @@ enum {
                                            second: how many moves up it was found, 0 for the action's own card */
     MUNDZAVCH_ANSWER_WRITTEN = 3,
     MUNDZAVCH_ANSWER_COMMITTED = 4,     /* first: the end time, of the action's kind; 0 where nothing was written */
-    MUNDZAVCH_ANSWER_FAILED = 5,        /* a commit with a clash, and the action is aborted; first: the clash's end
-                                           time, of the action's kind; second: its account */
+    MUNDZAVCH_ANSWER_FAILED = 5,        /* a commit, and the action is aborted. Under rule 1, first: the end time, of
+                                           the action's kind, of the commit that it clashes with; under rule 2, first:
+                                           the number of the lowest live action that has read what it would change;
+                                           second: the account */
     MUNDZAVCH_ANSWER_ABORTED = 6,       /* first: how many actions became aborted; second: how many then left the two
                                            queues, which the first does not count */
     MUNDZAVCH_ANSWER_ADDED = 7,
@@ -126,8 +143,9 @@ enum {
                                            which does not count it */
 };
 
-/* Makes a new table of the words, whatever they held. Returns 0, or 2 where `words` is not MUNDZAVCH_TABLE_WORDS. */
-uint64_t mundzavch_open(uint64_t *table, size_t words);
+/* Makes a new table of the words, whatever they held, under a rule that it keeps. Returns 0; or 20 where that is no
+ * rule, and the table is a new one under rule 1; or 2 where `words` is not MUNDZAVCH_TABLE_WORDS, and they stay. */
+uint64_t mundzavch_open(uint64_t *table, size_t words, uint64_t rule);
 
 /* The highest number given so far, which never falls, the topactions' counter and the subactions': 0 where a table is
  * too short to have them. */
@@ -136,7 +154,7 @@ uint64_t mundzavch_top_counter(const uint64_t *table, size_t words);
 uint64_t mundzavch_sub_counter(const uint64_t *table, size_t words);
 
 /* One event. An event ignores the parts that it does not use. Returns the answer's kind; its numbers are in *first,
- * *second and *third. Refusals: 1 to 9 and 13 to 19. */
+ * *second and *third. Refusals: 1 to 9, 13 to 19 and 21. */
 uint64_t mundzavch_event(uint64_t *table, size_t words, uint8_t *base, size_t base_bytes, uint8_t *shadow,
                          size_t shadow_bytes, uint64_t code, uint64_t number, uint64_t account, const uint8_t *card,
                          size_t card_bytes, uint64_t *first, uint64_t *second, uint64_t *third);
@@ -156,10 +174,10 @@ uint64_t mundzavch_run(uint64_t *table, size_t words, uint8_t *base, size_t base
                        size_t shadow_bytes, const uint8_t *events, size_t events_bytes, uint64_t *answers,
                        size_t answers_words);
 
-/* A whole day file, run on a new table over its opening cards. Of the table only the length is asked: what it held may
- * be anything, sound or not. The whole base store is replaced, by zeros where the file names no card; bytes of the
- * shadow store that nothing writes stay. Returns the length of the day's listing, which stands at the front of the
- * MUNDZAVCH_LISTING_BYTES bytes at `listing`; those behind it stay. A day that is refused (1, 2, 10, 11 or 12) lists
+/* A whole day file, run on a new table under rule 1 over its opening cards. Of the table only the length is asked: what
+ * it held may be anything, sound or not. The whole base store is replaced, by zeros where the file names no card; bytes
+ * of the shadow store that nothing writes stay. Returns the length of the day's listing, which stands at the front of
+ * the MUNDZAVCH_LISTING_BYTES bytes at `listing`; those behind it stay. A day that is refused (1, 2, 10, 11 or 12) lists
  * one line, `refused` and the number; table and stores stay. */
 size_t mundzavch_day(const uint8_t *file, size_t file_bytes, uint64_t *table, size_t words, uint8_t *base,
                      size_t base_bytes, uint8_t *shadow, size_t shadow_bytes, uint8_t *listing);

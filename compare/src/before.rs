@@ -49,6 +49,7 @@ fn of_start(table: &Table) -> (Vec<u64>, u64) {
 pub struct Before {
     queues: [Queue; KINDS.len()],
     pub code: u64,
+    pub number: u64,
     /// Of the action that the event names, where it names one.
     pub kind: Option<Kind>,
     pub joins: Joins,
@@ -66,7 +67,7 @@ impl Before {
         let joins = if commits { Joins::of(table, e.number) } else { Joins::default() };
         let (queues, highest) = (table.queues.clone(), table.highest);
         let (needed, orphans) = if e.code == EVENT_START { of_start(table) } else { (Vec::new(), 0) };
-        Before { queues, code: e.code, kind, joins, highest, needed, orphans }
+        Before { queues, code: e.code, number: e.number, kind, joins, highest, needed, orphans }
     }
 
     pub fn queue(&self, kind: Kind) -> &Queue {

@@ -9,6 +9,7 @@ use crate::header::*;
 use crate::library::{encode, Lent, ENTRIES, LIVE, QUEUE_LENGTHS, READINESS, STATE};
 use crate::model::{put_amount, Answer, Event, Ledger, FIRST_CHARGE, STORE};
 use crate::random::Random;
+use crate::rule::Rule;
 use crate::table::Table;
 use crate::times::Kind;
 use std::collections::VecDeque;
@@ -89,7 +90,12 @@ pub fn lend(w: &Ledger) -> Lent {
 }
 
 pub fn new_world() -> Ledger {
-    Ledger::new(vec![BASE_FILL; BASE_BYTES], vec![0; SHADOW_BYTES])
+    Ledger::new(Rule::Backward, vec![BASE_FILL; BASE_BYTES], vec![0; SHADOW_BYTES])
+}
+
+/// Over a base store of zeros, as the days have it.
+fn empty_world() -> Ledger {
+    Ledger::new(Rule::Backward, vec![0; BASE_BYTES], vec![0; SHADOW_BYTES])
 }
 
 pub fn of(code: u64, number: u64, account: u64) -> Event {
@@ -119,8 +125,7 @@ const DAYS: [(&str, Style); 4] = [
 /// A day of as many events as a file may have, in which topactions follow each other, a few live at a time, each with a
 /// write and some with a read. Numbers are given again all day.
 fn busy_day() -> Vec<Event> {
-    let (mut w, mut list, mut live) =
-        (Ledger::new(vec![0; BASE_BYTES], vec![0; SHADOW_BYTES]), Vec::new(), VecDeque::new());
+    let (mut w, mut list, mut live) = (empty_world(), Vec::new(), VecDeque::new());
     let mut event = |e: Event| {
         let answer = w.event(&e);
         list.push(e);
@@ -146,7 +151,7 @@ fn busy_day() -> Vec<Event> {
 
 /// A whole day: file to listing, and its events alone.
 fn days(rows: &mut Vec<Row>) {
-    let random = |style| events(&mut Random::new(SEED), &[0; BASE_BYTES], MOST_EVENTS, style, true);
+    let random = |style| events(&mut Random::new(SEED), empty_world(), MOST_EVENTS, style, true);
     let busy = (format!("with {BUSY_STARTS} starts"), busy_day());
     let days = DAYS.into_iter().map(|(name, style)| (name.to_string(), random(style))).chain([busy]);
     for (name, list) in days {
@@ -158,7 +163,7 @@ fn days(rows: &mut Vec<Row>) {
                 black_box(lent.day(&file, &mut buffer));
             },
             &mut || {
-                black_box(run_day(&file, vec![0; SHADOW_BYTES]));
+                black_box(run_day(&file, Rule::Backward, vec![0; SHADOW_BYTES]));
             },
         ));
         let bytes = event_bytes(&list);
@@ -166,11 +171,11 @@ fn days(rows: &mut Vec<Row>) {
         rows.push(measure(
             &format!("a day of 1,000 events, {name}: the events alone"),
             &mut || {
-                lent.open();
+                lent.open(RULE_BACKWARD);
                 black_box(lent.run(&bytes, &mut words));
             },
             &mut || {
-                ledger.table = Table::new();
+                ledger.table = Table::new(Rule::Backward);
                 black_box(list.iter().map(|e| ledger.sound_event(e)).last());
             },
         ));

@@ -5,6 +5,7 @@ use crate::coverage::Coverage;
 use crate::dayfile::{event_bytes, event_of};
 use crate::generate::{event, style};
 use crate::header::{ANSWER_WORDS, BASE_BYTES, EVENT_BYTES, SHADOW_BYTES, TABLE_WORDS};
+use crate::header::{RULE_BACKWARD, RULE_FORWARD};
 use crate::library::{answer_words, decode, encode, Lent, COUNTERS, HIGHEST};
 use crate::lists::STALE;
 use crate::model::Ledger;
@@ -16,6 +17,17 @@ use crate::times::Times;
 /// A list has fewer events than this; a buffer that may be too small, fewer words.
 const EVENTS: u64 = 6;
 const ROOM: u64 = 20;
+/// What openings ask for: the rules, what is next to them, and what ends in the bits of one.
+pub const ASKED: [u64; 8] = [
+    RULE_BACKWARD - 1,
+    RULE_BACKWARD,
+    RULE_FORWARD,
+    RULE_FORWARD + 1,
+    1 << 8 | RULE_FORWARD,
+    1 << 32 | RULE_BACKWARD,
+    1 << 32 | RULE_FORWARD,
+    u64::MAX,
+];
 
 /// A short list that may be cut, with room that may be too small; `ledger` stands where events mostly are not refused.
 pub fn list_call(r: &mut Random, before: &Lent, ledger: &Ledger, seen: &mut Coverage) -> Compared {
@@ -60,12 +72,23 @@ fn expected_list(before: &Lent, bytes: &[u8], room: usize) -> (u64, Lent, Vec<u6
     (cause::NONE, after, words)
 }
 
-pub fn open_and_three_numbers(before: &Lent) -> Compared {
+/// What an opening answers, and the words that it leaves.
+fn expected_opening(before: &[u64], asked: u64) -> (u64, Vec<u64>) {
+    if before.len() != TABLE_WORDS {
+        return (cause::UNSOUND, before.to_vec());
+    }
+    let ((cause, table), mut words) = (Table::opened(asked), vec![0; TABLE_WORDS]);
+    encode(&table, &mut words);
+    (cause, words)
+}
+
+pub fn open_and_three_numbers(r: &mut Random, before: &Lent, seen: &mut Coverage) -> Compared {
     let word = |i: usize| before.table.get(i).copied().unwrap_or(0);
     let [top, sub] = COUNTERS.map(word);
     same("the three numbers", before.three_numbers(), (word(HIGHEST), Times::new(top, sub)))?;
-    let fits = before.table.len() == TABLE_WORDS;
-    let mut lent = before.clone();
-    same("open", lent.open(), if fits { cause::NONE } else { cause::UNSOUND })?;
-    same_words(&lent.table, if fits { &[0; TABLE_WORDS] } else { &before.table })
+    let (mut lent, asked) = (before.clone(), *r.pick(&ASKED));
+    let (cause, words) = expected_opening(&before.table, asked);
+    same(&format!("an opening under {asked}"), lent.open(asked), cause)?;
+    seen.rules.opening(asked, cause);
+    same_words(&lent.table, &words)
 }

@@ -1,5 +1,5 @@
-//! Cases of own adds and trees at the ends of what an amount holds, and of the two queues and the two counters. Each
-//! has a name, and both engines are held to what the case says.
+//! Cases of own adds and trees at the ends of what an amount holds, of the two queues, the two counters and the two
+//! rules. Each has a name, and both engines are held to what the case says.
 
 use crate::action::State::{self, Aborted, Committed, Live};
 use crate::action::{Action, Parent};
@@ -14,6 +14,8 @@ use crate::newest_cases;
 use crate::number_cases;
 use crate::queue::Queue;
 use crate::queue_cases::{self, longest};
+use crate::rule::Rule;
+use crate::rule_cases;
 use crate::same::{same_lent, Compared};
 use crate::scripts::check_script;
 use crate::table::Table;
@@ -125,7 +127,8 @@ fn made(actions: &[Made], charge: usize) -> Table {
         a
     };
     let rows = (1..=highest).zip(actions).map(action).collect();
-    Table::lent(highest, Times::ZERO, NO_FIGURES, Newest::none(Kind::Top), KINDS.map(|_| Queue::new()), rows)
+    let (newest, queues) = (Newest::none(Kind::Top), KINDS.map(|_| Queue::new()));
+    Table::lent(Rule::Backward, highest, Times::ZERO, NO_FIGURES, newest, queues, rows)
 }
 
 fn tree_case(case: &TreeCase, charge: usize) -> Compared {
@@ -161,13 +164,15 @@ fn script_case(group: &str, name: &str, script: &str, seen: &mut Coverage) -> Co
 }
 
 fn check_scripts(seen: &mut Coverage) -> Compared {
-    let groups = [queue_cases::GROUPS, kind_cases::GROUPS, number_cases::GROUPS, newest_cases::GROUPS];
+    let groups =
+        [queue_cases::GROUPS, kind_cases::GROUPS, number_cases::GROUPS, newest_cases::GROUPS, rule_cases::GROUPS];
     for (group, cases) in groups.concat() {
         for (name, script) in cases {
             script_case(group, name, script, seen)?;
         }
     }
-    for (name, script) in longest().into_iter().chain(number_cases::long()).chain(newest_cases::long()) {
+    let long = [longest(), number_cases::long(), newest_cases::long(), rule_cases::long()];
+    for (name, script) in long.into_iter().flatten() {
         script_case("long", name, &script, seen)?;
     }
     Ok(())

@@ -31,3 +31,7 @@ pub const NOTHING_TO_JUDGE: u64 = 17;
 pub const QUEUE_FIRST: u64 = 18;
 /// A commit or an enter where the counter and the queue of the action's kind have come to the most.
 pub const COUNTED_OUT: u64 = 19;
+/// An opening under what is no rule.
+pub const NO_RULE: u64 = 20;
+/// An enter or a judge of a table under rule 2.
+pub const NO_QUEUES: u64 = 21;

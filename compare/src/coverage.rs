@@ -3,10 +3,11 @@
 use crate::before::{Before, Joins};
 use crate::cause;
 use crate::header::{EVENT_ADD, EVENT_COMMIT, EVENT_READ};
-use crate::model::{amount_in, Answer, Event, Outcome, Shown, FIRST_CHARGE};
+use crate::model::{amount_in, Answer, Event, Ledger, Outcome, Shown, FIRST_CHARGE};
 use crate::newest_coverage::NewestCoverage;
 use crate::number_coverage::NumberCoverage;
 use crate::queue_coverage::QueueCoverage;
+use crate::rule_coverage::RuleCoverage;
 use crate::sound::Unsound;
 use crate::table::Table;
 use crate::times::{Kind, KINDS};
@@ -41,6 +42,7 @@ pub struct Coverage {
     queues: QueueCoverage,
     pub numbers: NumberCoverage,
     pub newest: NewestCoverage,
+    pub rules: RuleCoverage,
     pub cases: u64,
     trees: u64,
     tree_refusals: BTreeMap<u64, u64>,
@@ -59,7 +61,7 @@ pub struct Coverage {
 pub type Point = (String, u64);
 
 /// The clauses of docs/RULES.md, 7, that have to do with no kind.
-const OF_NO_KIND: [Unsound; 7] = [
+const OF_NO_KIND: [Unsound; 8] = [
     Unsound::Highest,
     Unsound::State,
     Unsound::ParentUnknown,
@@ -67,6 +69,7 @@ const OF_NO_KIND: [Unsound; 7] = [
     Unsound::EndTimeTwice,
     Unsound::Pending,
     Unsound::Ring,
+    Unsound::Rule,
 ];
 /// Those that there are two of, one for each kind.
 const PER_KIND: [fn(Kind) -> Unsound; 13] = [
@@ -137,9 +140,10 @@ impl Coverage {
     }
 
     /// An event on a sound table, and what came of it.
-    pub fn outcome(&mut self, before: &Before, after: &Table, done: &Outcome) {
-        self.queues.event(before, after, done);
-        self.numbers.event(before, after, done);
+    pub fn outcome(&mut self, before: &Before, after: &Ledger, done: &Outcome) {
+        self.queues.event(before, &after.table, done);
+        self.numbers.event(before, &after.table, done);
+        self.rules.event(before, after, done);
         if let Answer::Committed(_) = done.answer {
             self.joins.behind += before.joins.behind;
             self.joins.behind_later += before.joins.behind_later;
@@ -177,6 +181,7 @@ impl Coverage {
         let mut points = self.queues.points();
         points.extend(self.numbers.points());
         points.extend(self.newest.points());
+        points.extend(self.rules.points());
         points.push(("a read joined that takes its times from two".to_string(), self.joins.crossed));
         for clause in OF_NO_KIND {
             points.push((format!("{clause:?} broken alone"), of(&self.unsound_alone, clause)));
@@ -292,6 +297,7 @@ impl fmt::Display for Coverage {
         write!(f, "{}", self.queues)?;
         write!(f, "{}", self.numbers)?;
         write!(f, "{}", self.newest)?;
+        write!(f, "{}", self.rules)?;
         row(f, "reads by moves up", &self.moves)?;
         row(f, "adds", &self.adds)?;
         row(f, "sums read", &self.sums)?;

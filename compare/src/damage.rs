@@ -5,11 +5,12 @@ use crate::damage_parents::damage_parent;
 use crate::damage_queues::{damage_queues, length, make_queue};
 use crate::generate::{any_base, busy_charge, extreme};
 use crate::header::*;
-use crate::library::{Lent, ABORTED, COMMITTED, LIVE};
+use crate::library::{rule_word, Lent, ABORTED, COMMITTED, LIVE};
 use crate::library::{COUNTERS, END, HEAD_WORDS, HIGHEST, KEPT, OWN_ADDS, PARENT};
-use crate::library::{PENDING, READS, STATE, SUB_TIMES, WRITES};
+use crate::library::{PENDING, READS, RULE, STATE, SUB_TIMES, WRITES};
 use crate::model::{base_card, put_amount, CHARGE_ACCOUNTS, FIRST_CHARGE, MOST_COUNTED, STORE};
 use crate::random::Random;
+use crate::rule::Rule;
 use crate::times::{Kind, KINDS};
 
 /// An enum of damages, with the list of them all.
@@ -76,6 +77,8 @@ damages! {
     NewestFree,
     NewestOfFinished,
     NewestAny,
+    RuleUnknown,
+    RuleOther,
 }
 
 use Damage::*;
@@ -86,11 +89,12 @@ pub const LENGTHS: &[Damage] = &[BaseLength, ShadowLength, TableLength];
 /// Lengths that are not those of the stores and of a table.
 const BASE_LENGTHS: [usize; 6] = [0, 1, BASE_BYTES - CARD_BYTES, BASE_BYTES - 1, BASE_BYTES + 1, 2 * BASE_BYTES];
 const SHADOW_LENGTHS: [usize; 6] = [0, 1, BASE_BYTES, SHADOW_BYTES - 1, SHADOW_BYTES + 1, SHADOW_BYTES + BASE_BYTES];
-const TABLE_LENGTHS: [usize; 9] = [
+const TABLE_LENGTHS: [usize; 10] = [
     HIGHEST,
     COUNTERS[0],
     COUNTERS[1],
     COUNTERS[1] + 1,
+    RULE,
     HEAD_WORDS,
     ROW_WORDS,
     TABLE_WORDS - 1,
@@ -154,6 +158,7 @@ fn damage_other(r: &mut Random, damage: Damage, lent: &mut Lent) {
         Counter | CounterAtMost => damage_counter(r, damage, words),
         UnusedHead => words[UNUSED_HEAD.start + r.below(UNUSED_HEAD.len() as u64) as usize] = r.next(),
         UnusedRow => damage_unused_row(r, words),
+        RuleUnknown | RuleOther => damage_rule(r, damage, words),
         QueueMade | QueueMadeReady | QueuesMadeReady | QueueLength | QueueLonger | QueueShorter | EntriesAbove
         | EntryWords | EntryNobody | EntryOther | EntryTwice | EntryOfOtherKind => damage_queues(r, damage, words),
         LateRead | LateReadWithinOther => damage_late_read(r, damage, words),
@@ -169,6 +174,17 @@ fn damage_other(r: &mut Random, damage: Damage, lent: &mut Lent) {
         }
         _ => damage_action(r, damage, words),
     }
+}
+
+/// A word that says no rule, or the rule that the table is not under, which is sound whatever the queues hold.
+fn damage_rule(r: &mut Random, damage: Damage, words: &mut [u64]) {
+    let [backward, forward] = [Rule::Backward, Rule::Forward].map(rule_word);
+    words[RULE] = match damage {
+        RuleUnknown if r.one_in(4) => u64::MAX,
+        RuleUnknown => beyond(r, forward + 1),
+        _ if words[RULE] == backward => forward,
+        _ => backward,
+    };
 }
 
 /// Most base amounts put at an end of 64 bits, or near it.

@@ -11,6 +11,7 @@ use crate::library::{decode, encode, Lent};
 use crate::lists::Opening;
 use crate::model::{amount_in, Answer, Event, Ledger, Shown, FIRST_CHARGE};
 use crate::random::Random;
+use crate::rule::{Rule, RULES};
 use crate::same::{same, same_lent, Compared};
 use crate::shrink::{described, smallest_list};
 use crate::table::Table;
@@ -51,7 +52,7 @@ fn seen_event(ledger: &mut Ledger, e: &Event, seen: &mut Coverage) -> Answer {
     let before = ledger.stores_cause().is_none().then(|| Before::new(&ledger.table, e));
     let outcome = ledger.outcome(e);
     if let Some(before) = before {
-        seen.outcome(&before, &ledger.table, &outcome);
+        seen.outcome(&before, ledger, &outcome);
     }
     outcome.answer
 }
@@ -78,11 +79,13 @@ fn refused_for_kept_sum(ledger: &Ledger, e: &Event, a: Answer) -> bool {
     is_refused && ledger.only_kept_sum_fails(ledger.table.action(e.number))
 }
 
+fn opening(rule: Rule) -> Opening {
+    Opening { rule, base: BASE.to_vec(), shadow: vec![SHADOW_FILL; SHADOW_BYTES] }
+}
+
 /// What a list leaves, in both engines.
-fn played(history: &[Event]) -> (Lent, Ledger) {
-    let opening = Opening { base: BASE.to_vec(), shadow: vec![SHADOW_FILL; SHADOW_BYTES] };
-    let mut lent = opening.lend();
-    let mut ledger = Ledger::new(opening.base, opening.shadow);
+fn played(rule: Rule, history: &[Event]) -> (Lent, Ledger) {
+    let (mut lent, mut ledger) = (opening(rule).lend(), opening(rule).ledger());
     for e in history {
         lent.event(e);
         ledger.event(e);
@@ -99,7 +102,7 @@ fn damaged(seed: u64, (lent, ledger): &(Lent, Ledger), seen: &mut Coverage) -> C
     }
     let guide = guide(&lent, ledger);
     list_call(&mut r, &lent, &guide, seen)?;
-    open_and_three_numbers(&lent)?;
+    open_and_three_numbers(&mut r, &lent, seen)?;
     let report = tree(&lent, &any_opening(&mut r), seen)?;
     seen.damaged_tree(&report);
     let style = style(&mut r);
@@ -116,21 +119,22 @@ fn damaged(seed: u64, (lent, ledger): &(Lent, Ledger), seen: &mut Coverage) -> C
 
 pub fn check_damaged(count: u64, seed: u64, seen: &mut Coverage) -> Compared {
     let mut r = Random::new(seed ^ SALT);
-    let (mut history, mut left) = (Vec::new(), played(&[]));
+    let (mut rule, mut history, mut left) = (Rule::Backward, Vec::new(), played(Rule::Backward, &[]));
     for i in 0..count {
         if i % TABLES_TO_A_HISTORY == 0 {
             let longest = *r.pick(&LONGEST_HISTORIES);
             let (length, style) = (r.below(longest) as usize, style(&mut r));
-            history = events(&mut r, &BASE, length, style, false);
-            left = played(&history);
+            rule = *r.pick(&RULES);
+            history = events(&mut r, opening(rule).ledger(), length, style, false);
+            left = played(rule, &history);
             crate::check::progress(&format!("{i} damaged tables of {count}"));
         }
         let once = r.next();
         if let Err(text) = damaged(once, &left, seen) {
-            let compared = |part: &[Event]| damaged(once, &played(part), &mut Coverage::default());
-            let small = smallest_list(&history, &BASE, |part| compared(part).is_err());
+            let compared = |part: &[Event]| damaged(once, &played(rule, part), &mut Coverage::default());
+            let small = smallest_list(&history, &opening(rule).ledger(), |part| compared(part).is_err());
             let why = compared(&small).err().unwrap_or(text);
-            return Err(format!("{why}\non damage {once} after {}", described(&small)));
+            return Err(format!("{why}\non damage {once} under rule {} after {}", rule.number(), described(&small)));
         }
     }
     Ok(())

@@ -3,6 +3,8 @@
 use crate::cause;
 use crate::header::{ACCOUNTS, BASE_BYTES, CARD_BYTES, EVENT_BYTES, SHADOW_BYTES};
 use crate::model::{base_card, Answer, Event, Ledger};
+use crate::rule::Rule;
+use crate::times::Times;
 use std::fmt::{self, Write};
 
 /// The parts of a day file (docs/RULES.md, 9.1): a count of cards, an entry for each, a count of events, the events.
@@ -83,23 +85,27 @@ pub fn refused_line(cause: u64) -> String {
     format!("refused {cause}\n")
 }
 
-/// The listing of a day over a shadow store that may hold anything, and what stands after it: nothing where the
-/// file is refused.
-pub fn run_day(file: &[u8], shadow: Vec<u8>) -> (String, Option<Ledger>) {
+/// A line for each answer, and the last one, with how many were started and the counters.
+pub fn listing(answers: &[Answer], counters: Times) -> String {
+    let (mut lines, mut started) = (String::new(), 0);
+    for (i, answer) in answers.iter().enumerate() {
+        started += u64::from(matches!(answer, Answer::Started(_)));
+        writeln!(lines, "{} {answer}", i + 1).expect("a string grows");
+    }
+    writeln!(lines, "end {started} {} {}", counters.top.0, counters.sub.0).expect("a string grows");
+    lines
+}
+
+/// The listing of a day, its events run under a rule, over a shadow store that may hold anything, and what stands after
+/// it: nothing where the file is refused.
+pub fn run_day(file: &[u8], rule: Rule, shadow: Vec<u8>) -> (String, Option<Ledger>) {
     let day = match parse(file) {
         Ok(day) => day,
         Err(fault) => return (refused_line(fault), None),
     };
-    let mut ledger = Ledger::new(day.base, shadow);
-    let (mut lines, mut started) = (String::new(), 0);
-    for (i, e) in day.events.iter().enumerate() {
-        let answer = ledger.sound_event(e);
-        started += u64::from(matches!(answer, Answer::Started(_)));
-        writeln!(lines, "{} {answer}", i + 1).expect("a string grows");
-    }
-    let counters = ledger.table.counters;
-    writeln!(lines, "end {started} {} {}", counters.top.0, counters.sub.0).expect("a string grows");
-    (lines, Some(ledger))
+    let mut ledger = Ledger::new(rule, day.base, shadow);
+    let answers: Vec<Answer> = day.events.iter().map(|e| ledger.sound_event(e)).collect();
+    (listing(&answers, ledger.table.counters), Some(ledger))
 }
 
 /// What stands after a day, and the base store that it began with.
@@ -115,7 +121,7 @@ pub fn day_tree(file: &[u8], shadow: Vec<u8>) -> (String, Option<Run>) {
         Ok(day) => day,
         Err(fault) => return (refused_line(fault), None),
     };
-    let mut ledger = Ledger::new(day.base.clone(), shadow);
+    let mut ledger = Ledger::new(Rule::Backward, day.base.clone(), shadow);
     for e in &day.events {
         ledger.sound_event(e);
     }
@@ -123,13 +129,13 @@ pub fn day_tree(file: &[u8], shadow: Vec<u8>) -> (String, Option<Run>) {
     (tree.to_string(), Some(Run { ledger, opening: day.base }))
 }
 
-fn read(path: &str) -> Result<Vec<u8>, String> {
+pub fn read(path: &str) -> Result<Vec<u8>, String> {
     std::fs::read(path).map_err(|e| format!("{path}: {e}"))
 }
 
-/// Prints a day file's lines as the day program does, and asks the library nothing.
-pub fn print_lines(path: &str) -> Result<(), String> {
-    print!("{}", run_day(&read(path)?, vec![0; SHADOW_BYTES]).0);
+/// Prints a day file's lines as the day program does, which has rule 1 alone, and asks the library nothing.
+pub fn print_lines(path: &str, rule: Rule) -> Result<(), String> {
+    print!("{}", run_day(&read(path)?, rule, vec![0; SHADOW_BYTES]).0);
     Ok(())
 }
 

@@ -9,6 +9,7 @@ use crate::header::{BASE_BYTES, LISTING_BYTES, SHADOW_BYTES, TABLE_WORDS};
 use crate::library::{encode, Lent};
 use crate::model::{Event, Ledger};
 use crate::random::Random;
+use crate::rule::Rule;
 use crate::same::{same, same_bytes, same_lent, Compared};
 use crate::shrink::{smallest_bytes, smallest_list};
 
@@ -45,7 +46,7 @@ fn expected(file: &[u8], before: &Lent) -> (String, Lent) {
     if let Some(cause) = lengths_cause(before) {
         return (refused_line(cause), before.clone());
     }
-    match run_day(file, before.shadow.clone()) {
+    match run_day(file, Rule::Backward, before.shadow.clone()) {
         (text, None) => (text, before.clone()),
         (text, Some(ledger)) => (text, left(ledger)),
     }
@@ -115,7 +116,8 @@ fn small_file(file: &[u8], before: &Parts) -> Vec<u8> {
     let Ok(whole) = parse(file) else { return smallest_bytes(file, differs) };
     let count_at = entry_at(file[0].into());
     let with = |events: &[Event]| [&file[..count_at], &counted_events(events)].concat();
-    with(&smallest_list(&whole.events, &whole.base, |part| differs(&with(part))))
+    let new = Ledger::new(Rule::Backward, whole.base, vec![0; SHADOW_BYTES]);
+    with(&smallest_list(&whole.events, &new, |part| differs(&with(part))))
 }
 
 pub fn check_days(count: u64, seed: u64, seen: &mut Coverage) -> Compared {

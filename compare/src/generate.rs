@@ -7,6 +7,7 @@ use crate::model::{base_card, put_amount, Event, Ledger};
 use crate::model::{CHARGE_ACCOUNTS, FIRST_CHARGE, MOST_ADDED, STORE};
 use crate::queue::Entry;
 use crate::random::Random;
+use crate::rule::Rule;
 
 /// What a part of an event that means nothing mostly is below: a little beyond what has a meaning.
 const CODES: u64 = EVENT_JUDGE + 3;
@@ -28,6 +29,8 @@ const NEAR: u64 = 2 * MOST_ADDED as u64;
 const ANYONE: u64 = 12;
 /// One end in so many is a commit though a queue comes first, and one commit in so many by any leaf.
 const OVERTAKES: u64 = 10;
+/// One end in so many is an enter or a judge though the table has no queues.
+const QUEUES_ANYWAY: u64 = 12;
 /// One event in so many uses what hardly a table but a lent one has.
 const RARE: u64 = 2;
 /// One event in so many is by the one that stays, and so may end it; and one is a start though no number is free.
@@ -162,6 +165,8 @@ struct Stage {
     /// Queued and not ready.
     unjudged: Vec<u64>,
     has_ready_head: bool,
+    /// Whether its rule lets anybody enter a queue.
+    has_queues: bool,
     /// Events, by code and number, that hardly a table but a lent one has: commits whose reads beside their parent's
     /// show how a join takes times, or whose kept sum alone is no amount, and ends of a kind whose counter is at its
     /// most.
@@ -181,12 +186,13 @@ impl Stage {
         let mut rare: Vec<(u64, u64)> = committers.iter().filter(|n| tells(**n)).map(ends(EVENT_COMMIT)).collect();
         let counted_out = |n: &&u64| t.is_counted_out(t.action(**n).kind());
         rare.extend(committers.iter().filter(counted_out).map(ends(EVENT_COMMIT)));
-        rare.extend(leaves.iter().filter(counted_out).map(ends(EVENT_ENTER)));
+        let has_queues = t.rule == Rule::Backward;
+        rare.extend(leaves.iter().filter(|_| has_queues).filter(counted_out).map(ends(EVENT_ENTER)));
         let entries: Vec<&Entry> = t.queues.iter().flat_map(|queue| queue.waiting()).collect();
         let queued = entries.iter().map(|w| w.number).collect();
         let unjudged = entries.iter().filter(|w| !w.is_ready()).map(|w| w.number).collect();
         let has_ready_head = t.queues.iter().any(|queue| queue.ready_head().is_some());
-        Stage { live, free, leaves, committers, queued, unjudged, has_ready_head, rare }
+        Stage { live, free, leaves, committers, queued, unjudged, has_ready_head, has_queues, rare }
     }
 
     /// Takes out one of the leaves, where there are others.
@@ -327,6 +333,9 @@ fn code(r: &mut Random, stage: &Stage, style: Style) -> u64 {
 
 /// How an action tries to end, or helps another to.
 fn end(r: &mut Random, stage: &Stage, ending: Ending) -> u64 {
+    if !stage.has_queues {
+        return if r.one_in(QUEUES_ANYWAY) { *r.pick(&[EVENT_ENTER, EVENT_JUDGE]) } else { EVENT_COMMIT };
+    }
     let (waits, patience) = (stage.unjudged.len() as u64, ending.patience());
     let commits = match ending {
         Ending::Commits if !stage.committers.is_empty() => true,
@@ -357,9 +366,8 @@ fn actor(r: &mut Random, stage: &Stage, code: u64) -> u64 {
     }
 }
 
-/// A list for a new table over the base store.
-pub fn events(r: &mut Random, base: &[u8], count: usize, style: Style, in_bytes: bool) -> Vec<Event> {
-    let mut ledger = Ledger::new(base.to_vec(), vec![0; SHADOW_BYTES]);
+/// A list for a new ledger.
+pub fn events(r: &mut Random, mut ledger: Ledger, count: usize, style: Style, in_bytes: bool) -> Vec<Event> {
     let mut out = Vec::with_capacity(count);
     for _ in 0..count {
         let e = event(r, &ledger, style, in_bytes);
@@ -398,8 +406,8 @@ pub fn any_day(r: &mut Random) -> Vec<u8> {
         }
     }
     let count = if r.one_in(20) { MOST_EVENTS } else { r.below(SHORT_DAY) as usize };
-    let style = style(r);
-    let events = events(r, &base, count, style, true);
+    let (style, new) = (style(r), Ledger::new(Rule::Backward, base, vec![0; SHADOW_BYTES]));
+    let events = events(r, new, count, style, true);
     let file = day_file(&opening, &events);
     if r.one_in(2) {
         damaged_file(r, file)

@@ -7,6 +7,7 @@ use crate::header::*;
 use crate::model::{Answer, Event, Figures, Shown, Version, CHARGE_ACCOUNTS};
 use crate::newest::Newest;
 use crate::queue::{Entry, Queue};
+use crate::rule::Rule;
 use crate::table::Table;
 use crate::times::{EndTime, Kind, Times, KINDS};
 use crate::tree::{Line, Tree};
@@ -16,7 +17,8 @@ use crate::tree::{Line, Tree};
 pub const HIGHEST: usize = 0;
 pub const COUNTERS: [usize; KINDS.len()] = [1, 2];
 pub const QUEUE_LENGTHS: [usize; KINDS.len()] = [3, 4];
-pub const HEAD_WORDS: usize = 5;
+pub const RULE: usize = 5;
+pub const HEAD_WORDS: usize = 6;
 /// Words of row n, action n. Each set, the subaction times of the reads and the newest end times have a word for every
 /// account, from here on, and the pending sums, own adds and kept sums one for every charge account.
 pub const PARENT: usize = 0;
@@ -57,7 +59,7 @@ const UNTOUCHED: u8 = 0xee;
 const NO_NUMBER: u64 = u64::MAX;
 
 extern "C" {
-    fn mundzavch_open(table: *mut u64, words: usize) -> u64;
+    fn mundzavch_open(table: *mut u64, words: usize, rule: u64) -> u64;
     fn mundzavch_highest(table: *const u64, words: usize) -> u64;
     fn mundzavch_top_counter(table: *const u64, words: usize) -> u64;
     fn mundzavch_sub_counter(table: *const u64, words: usize) -> u64;
@@ -217,8 +219,9 @@ impl Lent {
         &text[..length]
     }
 
-    pub fn open(&mut self) -> u64 {
-        unsafe { mundzavch_open(self.table.as_mut_ptr(), self.table.len()) }
+    /// The cause, none where it is a new table under the rule of this number.
+    pub fn open(&mut self, rule: u64) -> u64 {
+        unsafe { mundzavch_open(self.table.as_mut_ptr(), self.table.len(), rule) }
     }
 
     /// The highest number, and the counters.
@@ -269,6 +272,20 @@ pub fn answer_words(a: Answer) -> [u64; ANSWER_WORDS] {
         Answer::Ready(m) => [ANSWER_READY, m, 0, 0],
         Answer::JudgedFailed(m) => [ANSWER_JUDGED_FAILED, m, 0, 0],
     }
+}
+
+/// The answers of a list, from all their words.
+pub fn answers(words: &[u64]) -> Vec<Answer> {
+    words.chunks(ANSWER_WORDS).map(|w| answer(w.try_into().expect("an answer's length"))).collect()
+}
+
+/// The rule that the head's word says: it is 1 less than the number.
+fn rule(word: u64) -> Rule {
+    Rule::of(word.wrapping_add(1))
+}
+
+pub fn rule_word(rule: Rule) -> u64 {
+    rule.number().wrapping_sub(1)
 }
 
 fn state(word: u64) -> State {
@@ -376,7 +393,7 @@ pub fn decode(words: &[u64]) -> Option<Table> {
     let [top, sub] = COUNTERS.map(|at| words[at]);
     let queues = KINDS.map(|kind| queue(words, kind));
     let (kept, newest) = (figures(&words[KEPT..]), newest(words, Kind::Top));
-    Some(Table::lent(highest, Times::new(top, sub), kept, newest, queues, actions))
+    Some(Table::lent(rule(words[RULE]), highest, Times::new(top, sub), kept, newest, queues, actions))
 }
 
 fn put_action(a: &Action, parent: u64, row: &mut [u64]) {
@@ -404,6 +421,7 @@ fn put_queue(queue: &Queue, kind: Kind, words: &mut [u64]) {
 /// the highest number.
 pub fn encode(t: &Table, words: &mut [u64]) {
     words[HIGHEST] = t.highest;
+    words[RULE] = rule_word(t.rule);
     for kind in KINDS {
         words[COUNTERS[kind as usize]] = t.counters.number(kind);
         put_queue(t.queue(kind), kind, words);

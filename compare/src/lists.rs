@@ -7,10 +7,11 @@ use crate::coverage::Coverage;
 use crate::dayfile::event_bytes;
 use crate::generate::{any_base, bytes, events, style};
 use crate::header::{ANSWER_WORDS, CARD_BYTES, SHADOW_BYTES, TABLE_WORDS};
-use crate::library::{answer, encode, Lent};
+use crate::library::{answers, encode, Lent};
 use crate::model::{amount_in, base_card, Answer, Event, Leaver, Ledger, Shown, FIRST_CHARGE};
 use crate::newest_of_all::newest_of_all;
 use crate::random::Random;
+use crate::rule::{Rule, RULES};
 use crate::same::{same, same_bytes, same_lent, same_words, Compared};
 use crate::serial::{added_in_r, serial_run, Fed, Given};
 use crate::shrink::{described, smallest_list};
@@ -24,21 +25,26 @@ const SPARE: usize = 5;
 /// A list is at most as long as one of these.
 const LONGEST: [u64; 5] = [50, 250, 250, 700, 2_000];
 
-/// The stores that a list begins with.
+/// The rule of the new table and the stores that a list begins with.
 pub struct Opening {
+    pub rule: Rule,
     pub base: Vec<u8>,
     pub shadow: Vec<u8>,
 }
 
 impl Opening {
     pub fn any(r: &mut Random) -> Opening {
-        Opening { base: any_base(r), shadow: bytes(r, SHADOW_BYTES) }
+        Opening { rule: *r.pick(&RULES), base: any_base(r), shadow: bytes(r, SHADOW_BYTES) }
     }
 
     pub fn lend(&self) -> Lent {
         let mut lent = Lent { table: vec![STALE; TABLE_WORDS], base: self.base.clone(), shadow: self.shadow.clone() };
-        assert_eq!(lent.open(), cause::NONE, "a buffer of a table's length is refused");
+        assert_eq!(lent.open(self.rule.number()), cause::NONE, "a buffer of a table's length is refused");
         lent
+    }
+
+    pub fn ledger(&self) -> Ledger {
+        Ledger::new(self.rule, self.base.clone(), self.shadow.clone())
     }
 }
 
@@ -57,9 +63,8 @@ struct Played {
 
 impl Played {
     fn new(opening: &Opening) -> Played {
-        let ledger = Ledger::new(opening.base.clone(), opening.shadow.clone());
-        let (words, answers, left) = (vec![0; TABLE_WORDS], Vec::new(), Vec::new());
-        Played { lent: opening.lend(), ledger, words, answers, left, given: HashMap::new() }
+        let (lent, ledger, words) = (opening.lend(), opening.ledger(), vec![0; TABLE_WORDS]);
+        Played { lent, ledger, words, answers: Vec::new(), left: Vec::new(), given: HashMap::new() }
     }
 
     /// One event: answer, table, both stores, and what a look shows.
@@ -78,7 +83,7 @@ impl Played {
         }
         seen.answer(e, a);
         seen.look(shown);
-        seen.outcome(&before, &self.ledger.table, &outcome);
+        seen.outcome(&before, &self.ledger, &outcome);
         self.answers.push(a);
         self.left.push(committed(&outcome.left));
         Ok(())
@@ -98,6 +103,7 @@ fn list(opening: &Opening, events: &[Event], seen: &mut Coverage) -> Compared {
     let Played { lent, ledger, answers, left, given, .. } = played;
     same("the three numbers", lent.three_numbers(), (ledger.table.highest, ledger.table.counters))?;
     seen.lists += 1;
+    seen.rules.list(opening.rule);
     seen.numbers.list(&ledger.table);
     tree_of_list(&lent, &ledger.table, &opening.base, seen)?;
     newest_of_all(&lent, &ledger.table, seen)?;
@@ -129,6 +135,7 @@ fn held_to_serial_run(
         let what = format!("serial run: what was read at event {}", event + 1);
         same(&what, given.get(event), Some(here))?;
         seen.serial_reads += 1;
+        seen.rules.serial_read(opening.rule);
         seen.serial_sums += u64::from(here.amount.is_some());
     }
     same_bytes("serial run: the base store", base, &serial.base)
@@ -145,7 +152,13 @@ fn nothing_lost(opening: &Opening, fed: Fed, base: &[u8], seen: &mut Coverage) -
     Ok(())
 }
 
-fn in_one_call(opening: &Opening, events: &[Event], answers: &[Answer], after: &Lent, seen: &mut Coverage) -> Compared {
+fn in_one_call(
+    opening: &Opening,
+    events: &[Event],
+    expected: &[Answer],
+    after: &Lent,
+    seen: &mut Coverage,
+) -> Compared {
     let in_a_byte = |part: u64| part <= u8::MAX.into();
     let fits =
         |e: &Event| in_a_byte(e.code) && in_a_byte(e.number) && in_a_byte(e.account) && e.card.len() == CARD_BYTES;
@@ -156,9 +169,7 @@ fn in_one_call(opening: &Opening, events: &[Event], answers: &[Answer], after: &
     let mut words = vec![STALE; ANSWER_WORDS * events.len() + SPARE];
     same("list call", lent.run(&event_bytes(events), &mut words), cause::NONE)?;
     let (filled, spare) = words.split_at(ANSWER_WORDS * events.len());
-    let listed: Vec<Answer> =
-        filled.chunks(ANSWER_WORDS).map(|w| answer(w.try_into().expect("an answer's length"))).collect();
-    same("list call: answers", listed.as_slice(), answers)?;
+    same("list call: answers", answers(filled).as_slice(), expected)?;
     same("list call: words after the answers", spare, &[STALE; SPARE])?;
     seen.list_calls += 1;
     same_lent(&lent, after)
@@ -172,12 +183,12 @@ pub fn check_lists(count: u64, seed: u64, seen: &mut Coverage) -> Compared {
         let (style, in_bytes) = (style(&mut r), r.one_in(2));
         let longest = *r.pick(&LONGEST);
         let length = 1 + r.below(longest) as usize;
-        let events = events(&mut r, &opening.base, length, style, in_bytes);
+        let events = events(&mut r, opening.ledger(), length, style, in_bytes);
         if let Err(text) = list(&opening, &events, seen) {
             let differs = |part: &[Event]| list(&opening, part, &mut Coverage::default()).is_err();
-            let small = smallest_list(&events, &opening.base, differs);
+            let small = smallest_list(&events, &opening.ledger(), differs);
             let why = list(&opening, &small, &mut Coverage::default()).err().unwrap_or(text);
-            return Err(format!("{why}\nafter {}", described(&small)));
+            return Err(format!("{why}\nunder rule {} after {}", opening.rule.number(), described(&small)));
         }
         done += length as u64;
         crate::check::progress(&format!("{done} events of {count}"));

@@ -1,7 +1,8 @@
-//! compare: the library beside a second engine, by results (`check`) and by time (`bench`); or the second engine alone
-//! on a day file (`lines`, `tree`).
+//! compare: the library beside a second engine, by results (`check`) and by time (`bench`); or one of them alone on a day
+//! file, the second engine (`lines`, `tree`) or the library (`library`).
 
 mod action;
+mod ahead;
 mod before;
 mod bench;
 mod bench_verdict;
@@ -21,6 +22,7 @@ mod generate;
 mod header;
 mod kind_cases;
 mod library;
+mod library_lines;
 mod lists;
 mod model;
 mod newest;
@@ -33,6 +35,9 @@ mod queue;
 mod queue_cases;
 mod queue_coverage;
 mod random;
+mod rule;
+mod rule_cases;
+mod rule_coverage;
 mod same;
 mod scripts;
 mod serial;
@@ -44,14 +49,18 @@ mod times;
 mod tree;
 mod trees;
 
+use crate::header::RULE_BACKWARD;
+use crate::rule::Rule;
 use std::process::ExitCode;
 
 const USAGE: &str = "\
 usage: compare/run check [--events N] [--seed S]   both engines on N events in lists, and on other calls by that measure
        compare/run bench                           times of both, put into docs/PERFORMANCE.md
        compare/run bench PART                      times of that part alone, as verdict, printed and not put there
-       compare/run lines FILE                      the lines of a day file, by the second engine alone
-       compare/run tree FILE                       its tree, likewise";
+       compare/run lines FILE [--rule R]           the lines of a day file, by the second engine alone
+       compare/run library FILE [--rule R]         the same by the library alone, its events as one list
+       compare/run tree FILE                       its tree, by the second engine alone
+R is the rule of the table, 1 or 2; a day's own is 1.";
 
 const DEFAULT_EVENTS: u64 = 100_000;
 const DEFAULT_SEED: u64 = 1;
@@ -73,6 +82,14 @@ fn number(args: &[String], flag: &str, default: u64) -> Result<u64, String> {
     value.parse().map_err(|_| format!("{flag} needs a number, and has {value}"))
 }
 
+/// The rule that is asked, 1 where none is.
+fn rule(args: &[String]) -> Result<Rule, String> {
+    match Rule::of(number(args, "--rule", RULE_BACKWARD)?) {
+        Rule::Unknown(other) => Err(format!("--rule needs 1 or 2, and has {other}")),
+        rule => Ok(rule),
+    }
+}
+
 /// Whether the engines agree, where they are compared.
 fn run(args: &[String]) -> Result<bool, String> {
     match args.first().map(String::as_str) {
@@ -84,7 +101,8 @@ fn run(args: &[String]) -> Result<bool, String> {
             let part = args.get(1).map(String::as_str).filter(|word| !word.starts_with("--"));
             bench::bench(part, behind(args, "--write")).map(|()| true)
         }
-        Some("lines") => dayfile::print_lines(args.get(1).ok_or(USAGE)?).map(|()| true),
+        Some("lines") => dayfile::print_lines(args.get(1).ok_or(USAGE)?, rule(args)?).map(|()| true),
+        Some("library") => library_lines::print_library_lines(args.get(1).ok_or(USAGE)?, rule(args)?).map(|()| true),
         Some("tree") => dayfile::print_tree(args.get(1).ok_or(USAGE)?).map(|()| true),
         _ => Err(USAGE.to_string()),
     }

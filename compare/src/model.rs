@@ -5,6 +5,7 @@ use crate::action::{Action, Parent, Read, State};
 use crate::cause;
 use crate::header::*;
 use crate::queue::Entry;
+use crate::rule::Rule;
 use crate::table::Table;
 use crate::times::{EndTime, Kind};
 
@@ -74,7 +75,8 @@ pub enum Answer {
     Written,
     /// The end time's number.
     Committed(u64),
-    /// The first clash: its end time's number, its account.
+    /// Under rule 1 the first clash: its end time's number, its account. Under rule 2 the first reader ahead: its
+    /// number, its account.
     Failed(u64, u64),
     /// How many became aborted, and how many then left the two queues.
     Aborted(u64, u64),
@@ -143,8 +145,8 @@ struct Sums {
 }
 
 impl Ledger {
-    pub fn new(base: Vec<u8>, shadow: Vec<u8>) -> Ledger {
-        Ledger { table: Table::new(), base, shadow }
+    pub fn new(rule: Rule, base: Vec<u8>, shadow: Vec<u8>) -> Ledger {
+        Ledger { table: Table::new(rule), base, shadow }
     }
 
     /// Causes 1 and 2, which any call has.
@@ -155,12 +157,15 @@ impl Ledger {
         (!self.table.is_sound()).then_some(cause::UNSOUND)
     }
 
-    /// The causes 3 to 8, 13, 14, 9 and 16 to 19, in this order: all that are left but 15, which is asked where a sum
-    /// is made.
+    /// The causes 3, 21, 4 to 8, 13, 14, 9 and 16 to 19, in this order: all that are left but 15, which is asked where
+    /// a sum is made.
     fn event_cause(&self, e: &Event) -> Option<u64> {
         let t = &self.table;
         if !(EVENT_START..=EVENT_JUDGE).contains(&e.code) {
             return Some(cause::CODE);
+        }
+        if t.rule == Rule::Forward && matches!(e.code, EVENT_ENTER | EVENT_JUDGE) {
+            return Some(cause::NO_QUEUES);
         }
         let starts = e.code == EVENT_START;
         if e.number > t.highest || (e.number == STORE && !starts) {
@@ -284,9 +289,9 @@ impl Ledger {
     }
 
     fn commit(&mut self, n: u64) -> Result<Answer, u64> {
-        if let Some((end, account)) = self.table.first_clash(n) {
+        if let Some((first, account)) = self.table.found_against(n) {
             self.table.action_mut(n).state = State::Aborted;
-            return Ok(Answer::Failed(end.number(), account));
+            return Ok(Answer::Failed(first, account));
         }
         let sums = self.sums_left(self.table.action(n))?;
         Ok(Answer::Committed(self.pass(n, &sums).number()))
@@ -310,6 +315,11 @@ impl Ledger {
     /// What an action's commit leaves, where all of it are amounts.
     fn sums_left(&self, me: &Action) -> Result<Sums, u64> {
         Ok(Sums { settled: self.settled_by(me)?, kept: self.kept_by(me)? })
+    }
+
+    /// Whether its sums are no amounts.
+    pub fn sums_fail(&self, me: &Action) -> bool {
+        self.sums_left(me).is_err()
     }
 
     /// Whether a kept sum is all that keeps its sums from being amounts.

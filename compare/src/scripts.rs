@@ -4,15 +4,17 @@
 //! `kept` sum and the `newest` end times of 0 are the store's. `newest` asks for the accounts that are not 0, each with
 //! its time. `tree` asks for the lines of the tree, with the accounts that are not 0, each with own adds and total, and
 //! for the accounts of its last block that are not all 0. Amounts that are put are also those of the opening store.
-//! Both engines are held to every step.
+//! `open` opens the table anew under a rule and asks for the cause, 0 where there is none; `rule` puts a rule into the
+//! table, or asks for its own. Both engines are held to every step.
 
 use crate::coverage::Coverage;
 use crate::header::*;
-use crate::library::{decode, encode, state_said, Lent};
+use crate::library::{decode, encode, rule_word, state_said, Lent};
 use crate::library::{COUNTERS, END, ENTRIES, ENTRY_WORDS, HIGHEST, KEPT, NEWEST, OWN_ADDS, PARENT};
-use crate::library::{PENDING, QUEUE_LENGTHS, READS, STATE, SUB_TIMES, WRITES};
+use crate::library::{PENDING, QUEUE_LENGTHS, READS, RULE, STATE, SUB_TIMES, WRITES};
 use crate::model::{amount_in, base_card, put_amount, Answer, Event, Ledger, Shown, FIRST_CHARGE};
-use crate::same::{same, same_lent, Compared};
+use crate::rule::Rule;
+use crate::same::{same, same_lent, same_words, Compared};
 use crate::table::Table;
 use crate::times::Kind;
 use crate::trees::tree;
@@ -107,7 +109,7 @@ impl Both {
     fn new() -> Both {
         let (base, shadow) = (vec![0; BASE_BYTES], vec![0; SHADOW_BYTES]);
         let lent = Lent { table: vec![0; TABLE_WORDS], base: base.clone(), shadow: shadow.clone() };
-        let ledger = Ledger { table: Table::new(), base: base.clone(), shadow };
+        let ledger = Ledger::new(Rule::Backward, base.clone(), shadow);
         Both { lent, ledger, opening: base }
     }
 
@@ -131,6 +133,7 @@ impl Both {
             ("state", &[n, state]) => *self.word(n, STATE) = state as u64,
             ("wrote", &[n, account, entry]) => *self.word(n, WRITES + account as usize) = entry as u64,
             ("highest", &[number]) => *self.word(0, HIGHEST) = number as u64,
+            ("rule", &[number]) => *self.word(0, RULE) = rule_word(Rule::of(number as u64)),
             ("end", &[n, time]) => *self.word(n, END) = time as u64,
             ("counters", &[top, sub]) => {
                 for (at, counter) in COUNTERS.into_iter().zip([top, sub]) {
@@ -154,6 +157,17 @@ impl Both {
         self.ledger.table = decode(&self.lent.table).expect("a table's length");
         self.ledger.base.copy_from_slice(&self.lent.base);
         true
+    }
+
+    /// The cause of an opening under a rule of this number.
+    fn open(&mut self, number: u64) -> Result<u64, String> {
+        let (theirs, table) = Table::opened(number);
+        let (cause, mut words) = (self.lent.open(number), vec![0; TABLE_WORDS]);
+        same("open", cause, theirs)?;
+        encode(&table, &mut words);
+        same_words(&self.lent.table, &words)?;
+        self.ledger.table = table;
+        Ok(cause)
     }
 
     fn times_said(&mut self, n: i128, account: usize) -> String {
@@ -183,6 +197,8 @@ impl Both {
             ("state", &[n]) => state_said(*self.word(n, STATE)).to_string(),
             ("parent", &[n]) => self.word(n, PARENT).to_string(),
             ("highest", []) => self.word(0, HIGHEST).to_string(),
+            ("rule", []) => self.ledger.table.rule.number().to_string(),
+            ("open", &[number]) => self.open(number as u64)?.to_string(),
             ("pending" | "own" | "kept", &[n, account]) => (*self.word(n, figure(verb, account)) as i64).to_string(),
             ("tree", []) => tree(&self.lent, &self.opening, &mut Coverage::default())?.to_string(),
             ("end", &[n]) => self.word(n, END).to_string(),

@@ -1,7 +1,7 @@
 //! The smallest list that still shows a difference: parts are taken out, large ones first, while it stays.
 
 use crate::action::Place;
-use crate::header::{EVENT_ADD, SHADOW_BYTES};
+use crate::header::EVENT_ADD;
 use crate::model::{amount_in, Answer, Event, Ledger, AMOUNT_BYTES, STORE};
 use std::collections::HashMap;
 
@@ -31,17 +31,16 @@ pub fn smallest_bytes(bytes: &[u8], differs: impl Fn(&[u8]) -> bool) -> Vec<u8> 
     smallest(bytes, |all, from, to| [&all[..from], &all[to..]].concat(), differs)
 }
 
-/// Of a list that begins over the base store.
-pub fn smallest_list(events: &[Event], base: &[u8], differs: impl Fn(&[Event]) -> bool) -> Vec<Event> {
-    smallest(events, |all, from, to| without(all, base, from, to), differs)
+/// Of a list that begins on a new ledger.
+pub fn smallest_list(events: &[Event], new: &Ledger, differs: impl Fn(&[Event]) -> bool) -> Vec<Event> {
+    smallest(events, |all, from, to| without(all, new, from, to), differs)
 }
 
 /// The other events, with the numbers that their actions get when those taken out are gone: the whole list and the
 /// shorter one are run side by side, and an action is the same in both by its start. Where it has no number in the
 /// shorter list, the event keeps the one that it has.
-fn without(events: &[Event], base: &[u8], from: usize, to: usize) -> Vec<Event> {
-    let new = || Ledger::new(base.to_vec(), vec![0; SHADOW_BYTES]);
-    let (mut whole, mut shorter, mut kept) = (new(), new(), Vec::new());
+fn without(events: &[Event], new: &Ledger, from: usize, to: usize) -> Vec<Event> {
+    let (mut whole, mut shorter, mut kept) = (new.clone(), new.clone(), Vec::new());
     let mut numbers: HashMap<Place, u64> = HashMap::new();
     for (i, e) in events.iter().enumerate() {
         let named = (e.number != STORE && e.number <= whole.table.highest).then(|| whole.table.holder(e.number));

@@ -3,6 +3,7 @@
 use crate::action::{Action, Parent, State};
 use crate::header::ACTIONS;
 use crate::model::{CHARGE_ACCOUNTS, MOST_COUNTED, STORE};
+use crate::rule::Rule;
 use crate::table::Table;
 use crate::times::{EndTime, Kind, Times, KINDS};
 use std::collections::BTreeSet;
@@ -36,6 +37,7 @@ pub enum Unsound {
     NewestTime(Kind),
     /// A newest end time that gives a live read another verdict than the records do.
     NewestFalse(Kind),
+    Rule,
 }
 
 /// What the counters and the times are held to: for each kind how many wait, and the counters.
@@ -79,6 +81,7 @@ impl Table {
     fn faults_within(&self, bounds: Bounds) -> BTreeSet<Unsound> {
         let mut faults = Faults::default();
         faults.note(self.highest > ACTIONS as u64, Unsound::Highest);
+        faults.note(matches!(self.rule, Rule::Unknown(_)), Unsound::Rule);
         if self.highest <= ACTIONS as u64 {
             for a in self.held() {
                 self.action_faults(a, &mut faults);

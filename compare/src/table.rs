@@ -1,14 +1,17 @@
 //! A table of the second engine: every action that was ever started, and which of them the numbers name.
 
 use crate::action::{Action, Parent, Place, Read, State};
+use crate::cause;
 use crate::header::{ACCOUNTS, ACTIONS};
 use crate::model::{Figures, Version, MOST_COUNTED, NO_FIGURES, STORE};
 use crate::newest::Newest;
 use crate::queue::Queue;
+use crate::rule::Rule;
 use crate::times::{EndTime, Kind, Times, KINDS};
 
 #[derive(Clone, PartialEq, Eq, Debug)]
 pub struct Table {
+    pub rule: Rule,
     /// The highest number given so far; in a lent table any word.
     pub highest: u64,
     pub counters: Times,
@@ -25,12 +28,22 @@ pub struct Table {
 }
 
 impl Table {
-    pub fn new() -> Table {
-        Table::lent(0, Times::ZERO, NO_FIGURES, Newest::none(Kind::Top), KINDS.map(|_| Queue::new()), Vec::new())
+    pub fn new(rule: Rule) -> Table {
+        let (newest, queues) = (Newest::none(Kind::Top), KINDS.map(|_| Queue::new()));
+        Table::lent(rule, 0, Times::ZERO, NO_FIGURES, newest, queues, Vec::new())
+    }
+
+    /// The new table that an opening under a rule of this number makes, and the opening's cause.
+    pub fn opened(number: u64) -> (u64, Table) {
+        match Rule::of(number) {
+            Rule::Unknown(_) => (cause::NO_RULE, Table::new(Rule::Backward)),
+            rule => (cause::NONE, Table::new(rule)),
+        }
     }
 
     /// A table whose rows show these actions, by number: as many as the highest number says, if there is room for them.
     pub fn lent(
+        rule: Rule,
         highest: u64,
         counters: Times,
         kept: Figures,
@@ -39,7 +52,7 @@ impl Table {
         actions: Vec<Action>,
     ) -> Table {
         let holders = (0..actions.len()).map(Place).collect();
-        Table { highest, counters, kept, newest, queues, actions, holders }
+        Table { rule, highest, counters, kept, newest, queues, actions, holders }
     }
 
     // ---- actions and numbers
@@ -164,7 +177,7 @@ impl Table {
     // ---- up the parents, from live actions
 
     /// An action and those above it. It comes to an end for every live action of a sound table.
-    fn upwards<'a>(&'a self, from: &'a Action) -> impl Iterator<Item = &'a Action> {
+    pub fn upwards<'a>(&'a self, from: &'a Action) -> impl Iterator<Item = &'a Action> {
         std::iter::successors(Some(from), |a| Some(self.at(a.parent.place()?)))
     }
 
@@ -240,6 +253,15 @@ impl Table {
     }
 
     // ---- verdicts
+
+    /// What the table's rule finds against a commit, as the two numbers of the answer; none where it passes.
+    pub fn found_against(&self, n: u64) -> Option<(u64, u64)> {
+        match self.rule {
+            Rule::Backward => self.first_clash(n).map(|(end, account)| (end.number(), account)),
+            Rule::Forward => self.first_reader_ahead(n),
+            Rule::Unknown(_) => unreachable!("a sound table is under a rule"),
+        }
+    }
 
     /// The first clash: by end time, then by account, with any record that the very parent has ever had, so that none
     /// that was dropped is missed. The records are of one kind, so their end times are compared.

@@ -27,6 +27,8 @@ pub mod WaitingHead
 pub mod WaitingRule
 pub mod JudgingRule
 pub mod Backward
+pub mod PassesAhead
+pub mod Forward
 pub mod Collected
 pub mod LeaversKept
 pub mod RunKeeps

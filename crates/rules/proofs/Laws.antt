@@ -6,6 +6,7 @@ pub mod Lists
 pub mod Each
 pub mod Puts
 pub mod Words
+pub mod NewTables
 pub mod Fields
 pub mod Sets
 pub mod RowPass

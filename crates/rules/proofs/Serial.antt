@@ -13,6 +13,7 @@ pub mod Rule
 pub mod Ground
 pub mod GroundedRule
 pub mod Stale
+pub mod Ahead
 pub mod Shown
 pub mod Settling
 pub mod MachineShows

@@ -22,3 +22,4 @@ pub mod Aborting
 pub mod Leaving
 pub mod Waiting
 pub mod Kept
+pub mod RuleKept

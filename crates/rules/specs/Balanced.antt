@@ -13,20 +13,20 @@ use Rattle.rules.specs.Run.{run}
 use Rattle.rules.specs.Tree.{treeCause}
 use Rattle.rules.specs.Serial.Demand.{newOver}
 
--- the ledger after the list S = es, given to a new table over the stores base and shadow
-abbrev pub ledgerAfter : List ℕ → List ℕ → List Event → Ledger
-ledgerAfter base shadow es = run (newOver base shadow) es .after
+-- the ledger after the list S = es, given to a new table under rule r over the stores base and shadow
+abbrev pub ledgerAfter : ℕ → List ℕ → List ℕ → List Event → Ledger
+ledgerAfter r base shadow es = run (newOver r base shadow) es .after
 
 -- What is claimed of it.
-pub record Balanced (base shadow : List ℕ) (es : List Event) : Type 0 where
+pub record Balanced (r : ℕ) (base shadow : List ℕ) (es : List Event) : Type 0 where
   -- each action's total is its pending sum, whatever its state
   pub totals :
-      (n k : ℕ) → IsGiven (ledgerAfter base shadow es .table) n → IsCharge k →
-      pendingSum (ledgerAfter base shadow es .table) n k ≡ totalOf (ledgerAfter base shadow es .table) n k
+      (n k : ℕ) → IsGiven (ledgerAfter r base shadow es .table) n → IsCharge k →
+      pendingSum (ledgerAfter r base shadow es .table) n k ≡ totalOf (ledgerAfter r base shadow es .table) n k
   -- opening and sum make closing
   pub closes :
       (k : ℕ) → IsCharge k →
-      baseAmount (ledgerAfter base shadow es .base) k
-      ≡ baseAmount base k +ℤ keptSum (ledgerAfter base shadow es .table) 0 k
+      baseAmount (ledgerAfter r base shadow es .base) k
+      ≡ baseAmount base k +ℤ keptSum (ledgerAfter r base shadow es .table) 0 k
   -- the report that has base for its opening store is not refused
-  pub reported : let s = ledgerAfter base shadow es in treeCause (s .table) (s .base) (s .shadow) base ≡ 0
+  pub reported : let s = ledgerAfter r base shadow es in treeCause (s .table) (s .base) (s .shadow) base ≡ 0

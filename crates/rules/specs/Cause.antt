@@ -8,7 +8,7 @@ use lib.IntN.{ℤ, _+ℤ_}
 use Rattle.rules.specs.Card.{accountCount, isCharge, chargeAccounts, cardLength, baseLength, shadowLength}
 use Rattle.rules.specs.Amount.{isAmount, isAddable, amountIn}
 use Rattle.rules.specs.Range.{any}
-use Rattle.rules.specs.Table.{highest, parentOf, kindOf, hasWritten, pendingSum, ownAdds, keptAfter, counter, lastTime, isLive, hasLiveChild}
+use Rattle.rules.specs.Table.{highest, isForward, parentOf, kindOf, hasWritten, pendingSum, ownAdds, keptAfter, counter, lastTime, isLive, hasLiveChild}
 use Rattle.rules.specs.Held.{heldSum}
 use Rattle.rules.specs.Sound.{sound}
 use Rattle.rules.specs.Free.{nextNumber}
@@ -17,7 +17,7 @@ use Rattle.rules.specs.Event.{Event, startCode, judgeCode, isStart, isRe
 use Rattle.rules.specs.Nearest.{readSum}
 use Rattle.rules.specs.declared.Found.{Found}
 use Rattle.rules.specs.declared.Found.the-variants.{Nothing, At}
-use Rattle.rules.specs.Clash.{firstClash}
+use Rattle.rules.specs.Verdict.{commitVerdict}
 
 -- a cause: its number, and whether it applies
 pub record Cause : Type 0 where
@@ -45,6 +45,17 @@ codeCause = 3
 
 abbrev pub isCodeUnknown : ℕ → Bool
 isCodeUnknown code = not (leb startCode code && leb code judgeCode)
+
+-- RULES 11.1: an opening's alone, for a rule that is none; no event has it
+abbrev pub ruleCause : ℕ
+ruleCause = 20
+
+abbrev pub misfitCause : ℕ
+misfitCause = 21
+
+-- the table judges forwards, so that nobody waits; asked of an enter and of a judge
+abbrev pub isRuleMisfit : List ℕ → Bool → Bool
+isRuleMisfit w used = used && isForward w
 
 abbrev pub numberCause : ℕ
 numberCause = 4
@@ -145,7 +156,7 @@ isCopyOutside w base n k = hasWritten w n k && not (isAmount (commitSum w base n
 abbrev pub isKeptOutside : List ℕ → ℕ → ℕ → Bool
 isKeptOutside w n k = not (isAmount (keptAfter w n (parentOf w n) k))
 
--- one of them is, for one of the charge accounts; a commit with a clash makes none
+-- one of them is, for one of the charge accounts; a commit that something is found against makes none
 unfoldable pub isCommitOutside : List ℕ → List ℕ → ℕ → Found → Bool
 isCommitOutside w base n Nothing = any (λ k. isCopyOutside w base n k || isKeptOutside w n k) chargeAccounts
 isCommitOutside w base n (At t k) = false
@@ -159,7 +170,7 @@ abbrev pub isAddOutside : List ℕ → ℕ → ℕ → List ℕ → Bool
 isAddOutside w n k card =
     not (isAmount (pendingSum w n k +ℤ amountIn card)) || not (isAmount (ownAdds w n k +ℤ amountIn card))
 
--- which sums an event makes: by its code, so that a clash is searched for at a commit alone
+-- which sums an event makes: by its code, so that a commit alone is judged
 pub data Sums : Type 0 where
   inRead inAdd inCommit inNone : Sums
 
@@ -170,7 +181,7 @@ sumsOf e = cond (isRead e) inRead (cond (isAdd e) inAdd (cond (isCommit e) inCom
 unfoldable pub areOutside : List ℕ → List ℕ → Event → Sums → Bool
 areOutside w base e inRead = isReadOutside w base (e .number) (e .account)
 areOutside w base e inAdd = isAddOutside w (e .number) (e .account) (e .card)
-areOutside w base e inCommit = isCommitOutside w base (e .number) (firstClash w (e .number))
+areOutside w base e inCommit = isCommitOutside w base (e .number) (commitVerdict w (e .number))
 areOutside w base e inNone = false
 
 abbrev pub isSumOutside : List ℕ → List ℕ → Event → Bool
@@ -189,6 +200,7 @@ storeCauses w base shadow =
 unfoldable pub earlyCauses : List ℕ → Event → List Cause
 earlyCauses w e =
     record { number = codeCause; applies = isCodeUnknown (e .code) }
+    ∷ record { number = misfitCause; applies = isRuleMisfit w (isEnter e || isJudge e) }
     ∷ record { number = numberCause; applies = isNumberUnknown w (isStart e) (e .number) }
     ∷ record { number = notLiveCause; applies = isNotLive w (e .number) }
     ∷ record { number = tableFullCause; applies = isTableFull w (isStart e) }

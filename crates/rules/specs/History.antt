@@ -73,9 +73,9 @@ unfoldable pub historyFrom : Ledger → List Event → History → History
 historyFrom s [] had = had
 historyFrom s (e ∷ es) had = historyFrom (step s e .after) es (historyOne s e had)
 
--- the list S = es, given to a new table over the stores base and shadow
-abbrev pub historyOf : List ℕ → List ℕ → List Event → History
-historyOf base shadow es = historyFrom (newOver base shadow) es noRecords
+-- the list S = es, given to a new table under rule r over the stores base and shadow
+abbrev pub historyOf : ℕ → List ℕ → List ℕ → List Event → History
+historyOf r base shadow es = historyFrom (newOver r base shadow) es noRecords
 
 -- ---- the first clash with records that were had
 
@@ -95,10 +95,10 @@ firstHadClash w n (r ∷ rs) = earliest (r .end) (filter (isHadClash w n r) acco
 
 -- ---- the claim
 
--- After the list S = es, given to a new table over the stores base and shadow, each live action's first clash is that with all
--- the records that its parent has had.
-pub record NoVerdictLost (base shadow : List ℕ) (es : List Event) : Type 0 where
+-- After the list S = es, given to a new table under rule r over the stores base and shadow, each live action's first clash is that
+-- with all the records that its parent has had.
+pub record NoVerdictLost (r : ℕ) (base shadow : List ℕ) (es : List Event) : Type 0 where
   pub verdicts :
-      let w = ledgerAfter base shadow es .table in
+      let w = ledgerAfter r base shadow es .table in
       (n : ℕ) → IsGiven w n → isLive w n ≡ true →
-      firstClash w n ≡ firstHadClash w n (historyOf base shadow es (parentOf w n))
+      firstClash w n ≡ firstHadClash w n (historyOf r base shadow es (parentOf w n))

@@ -17,6 +17,7 @@ pub mod Encoding
 pub mod Nearest
 pub mod Clash
 pub mod Search
+pub mod Ahead
 pub mod Verdict
 pub mod Cause
 pub mod Look

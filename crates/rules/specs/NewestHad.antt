@@ -20,18 +20,18 @@ newestHad k (r ∷ rs) =
     let rest = newestHad k rs in
     cond (r .wrote k) (max (r .end) rest) rest
 
--- What holds after the list S = es, given to a new table over the stores base and shadow.
-pub record NewestOfAll (base shadow : List ℕ) (es : List Event) : Type 0 where
+-- What holds after the list S = es, given to a new table under rule r over the stores base and shadow.
+pub record NewestOfAll (r : ℕ) (base shadow : List ℕ) (es : List Event) : Type 0 where
   -- of the store and of every number given, that of a finished action too
   pub newests :
-      let w = ledgerAfter base shadow es .table in
-      (p k : ℕ) → p ≤ highest w → k < accountCount → newest w p k ≡ newestHad k (historyOf base shadow es p)
+      let w = ledgerAfter r base shadow es .table in
+      (p k : ℕ) → p ≤ highest w → k < accountCount → newest w p k ≡ newestHad k (historyOf r base shadow es p)
   -- a live action's clash is known exactly where it has one with a record that is held,
   pub verdicts :
-      let w = ledgerAfter base shadow es .table in
+      let w = ledgerAfter r base shadow es .table in
       (n : ℕ) → IsLiveAction w n → isKnownClash w n ≡ not (isClear (firstClash w n))
   -- and exactly where it has one with a record that its parent has had
   pub hadVerdicts :
-      let w = ledgerAfter base shadow es .table in
+      let w = ledgerAfter r base shadow es .table in
       (n : ℕ) → IsLiveAction w n →
-      isKnownClash w n ≡ not (isClear (firstHadClash w n (historyOf base shadow es (parentOf w n))))
+      isKnownClash w n ≡ not (isClear (firstHadClash w n (historyOf r base shadow es (parentOf w n))))

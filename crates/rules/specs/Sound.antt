@@ -10,11 +10,15 @@ use lib.ListN.{length}
 use Rattle.rules.specs.Range.{upFrom, any, all}
 use Rattle.rules.specs.Kind.{IsKind, kinds, kindUnder}
 use Rattle.rules.specs.Card.{accountCount, accounts, IsCharge, chargeAccounts}
-use Rattle.rules.specs.Table.{tableLength, mostActions, live, committed, aborted, highest, counter, lastTime, parentOf, kindOf, stateOf, endTime, hasRead, readTime, hasWritten, pendingWord, newest, isLive, hasEnd, actions, parents, hasLiveChild}
+use Rattle.rules.specs.Table.{tableLength, mostActions, ruleOf, isRule, live, committed, aborted, highest, counter, lastTime, parentOf, kindOf, stateOf, endTime, hasRead, readTime, hasWritten, pendingWord, newest, isLive, hasEnd, actions, parents, hasLiveChild}
 use Rattle.rules.specs.Walk.{climbs, Climbs, isUnder}
 use Rattle.rules.specs.Free.{isStoreOrLive}
 use Rattle.rules.specs.Queue.{queueLength, queue, isQueued}
 use Rattle.rules.specs.Stale.{isStale, isKnownStale}
+
+-- 7.17: the table is under one of the rules
+abbrev pub hasRule : List ℕ → Bool
+hasRule w = isRule (ruleOf w)
 
 -- 7.3: the counter of kind h has room for an end time of each who waits in queue h
 unfoldable pub isBounded : List ℕ → ℕ → Bool
@@ -122,12 +126,13 @@ areNewestTrue w p =
     let told = all (isNewestTrue w p) (actions w) in
     not (isStoreOrLive w p) || told
 
--- 7.1 the length, 7.2 the highest number, 7.3 the counters, and the clauses of each action, of each queue and of each row's newest
+-- 7.1 the length, 7.2 the highest number, 7.17 the rule, 7.3 the counters, and the clauses of each action, of each queue and of each row's newest
 -- end times
 unfoldable pub sound : List ℕ → Bool
 sound w =
     eqb (length w) tableLength
     && leb (highest w) mostActions
+    && hasRule w
     && all (isBounded w) kinds
     && all (isSoundAction w) (actions w)
     && all (isSoundQueue w) kinds
@@ -163,6 +168,7 @@ pub record SoundQueue (w : List ℕ) (h : ℕ) : Type 0 where
 pub record Sound (w : List ℕ) : Type 0 where
   pub long : length w ≡ tableLength
   pub few : highest w ≤ mostActions
+  pub ruled : hasRule w ≡ true
   pub bounded : (h : ℕ) → IsKind h → counter w h + queueLength w h ≤ lastTime
   pub states : (n : ℕ) → IsGiven w n → hasState w n ≡ true
   pub known : (n : ℕ) → IsGiven w n → parentOf w n ≤ highest w

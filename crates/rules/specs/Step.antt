@@ -21,8 +21,7 @@ use Rattle.rules.specs.Cause.{isCommitOutside, causeOf}
 use Rattle.rules.specs.Nearest.{version, readSum}
 use Rattle.rules.specs.declared.Found.{Found}
 use Rattle.rules.specs.declared.Found.the-variants.{Nothing, At}
-use Rattle.rules.specs.Clash.{firstClash}
-use Rattle.rules.specs.Verdict.{verdictOf}
+use Rattle.rules.specs.Verdict.{commitVerdict, verdictOf}
 
 -- what an event answers and leaves
 pub record Outcome : Type 0 where
@@ -102,14 +101,14 @@ add s n k card = record { answer = Added; after = withTable s (addTable (s .tabl
 abbrev pub failedLedger : Ledger → ℕ → Ledger
 failedLedger s n = withTable s (withState (s .table) n aborted)
 
--- by whether a clash was found
+-- by whether something was found against it
 unfoldable pub judged : Ledger → ℕ → Found → Outcome
 judged s n Nothing =
     record { answer = Committed (commitTime (s .table) n); after = committedUnder s n (parentOf (s .table) n) }
 judged s n (At t k) = record { answer = Failed t k; after = failedLedger s n }
 
 unfoldable pub commit : Ledger → ℕ → Outcome
-commit s n = judged s n (firstClash (s .table) n)
+commit s n = judged s n (commitVerdict (s .table) n)
 
 -- ---- RULES 2.14: the head of a queue is tried
 

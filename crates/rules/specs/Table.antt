@@ -3,7 +3,7 @@
 -- (proofs/Laws/Words.antt). Assumes nothing.
 use Prim.Native.Nat.{ℕ, _+_, _-_, _*_, _≤_, _<_}
 use mathlib.Core.Logic.{_⊎_}
-use mathlib.Core.Bool.{Bool, not, cond, _&&_}
+use mathlib.Core.Bool.{Bool, not, cond, _&&_, _||_}
 use mathlib.Core.List.{List}
 use lib.Dec.{eqb}
 use lib.IntN.{ℤ, _+ℤ_}
@@ -42,7 +42,7 @@ withWord w n f v = set w (width * n + f) v
 unfoldable pub withFields : List ℕ → ℕ → (ℕ → ℕ) → List ℕ → (ℕ → ℕ) → List ℕ
 withFields w n field ks values = fold (λ k now. withWord now n (field k) (values k)) ks w
 
--- RULES 1.6: no action, both counters 0, both queues empty
+-- RULES 1.6: no action, both counters 0, both queues empty, under rule 1
 unfoldable pub newTable : List ℕ
 newTable = replicate tableLength 0
 
@@ -74,6 +74,34 @@ withCounter w h v = withWord w 0 (counterField h) v
 -- RULES 7.3: no end time is later
 abbrev pub lastTime : ℕ
 lastTime = 4000000000
+
+-- RULES 1.12: the rule by which the table judges commits; its word is the rule less 1, so that a table of zeros is under rule 1
+abbrev pub ruleField : ℕ
+ruleField = 5
+
+abbrev pub ruleOf : List ℕ → ℕ
+ruleOf w = word w 0 ruleField + 1
+
+abbrev pub withRule : List ℕ → ℕ → List ℕ
+withRule w r = withWord w 0 ruleField (r - 1)
+
+-- backward and forward validation; the two numbers are document 02's
+abbrev pub backwardRule : ℕ
+backwardRule = 1
+
+abbrev pub forwardRule : ℕ
+forwardRule = 2
+
+abbrev pub isRule : ℕ → Bool
+isRule r = eqb r backwardRule || eqb r forwardRule
+
+-- the table judges forwards
+abbrev pub isForward : List ℕ → Bool
+isForward w = eqb (ruleOf w) forwardRule
+
+-- RULES 1.6 and 11.1: the new table that an opening under r leaves; r may be no rule, and then it is under rule 1
+unfoldable pub newTableUnder : ℕ → List ℕ
+newTableUnder r = cond (eqb r forwardRule) (withRule newTable forwardRule) newTable
 
 -- ---- RULES 1.5: the parts of an action
 

@@ -9,7 +9,8 @@ use Rattle.rules.specs.Card.{accounts, isCharge, cardLength, basePlace, 
 use Rattle.rules.specs.Amount.{amountLength}
 use Rattle.rules.specs.Table.{parentOf, hasWritten, hasCard}
 use Rattle.rules.specs.Event.{Event, isWrite, isCommit}
-use Rattle.rules.specs.Clash.{isClear, firstClash}
+use Rattle.rules.specs.Clash.{isClear}
+use Rattle.rules.specs.Verdict.{commitVerdict}
 use Rattle.rules.specs.Ledger.{Ledger}
 use Rattle.rules.specs.Step.{leaversAt}
 
@@ -35,7 +36,7 @@ isCopied w n p i = any (λ k. hasCard w n k && isAmong cardLength (shadowPlace p
 
 -- a commit that passes
 abbrev pub isCommitting : List ℕ → Event → Bool
-isCommitting w e = isCommit e && isClear (firstClash w (e .number))
+isCommitting w e = isCommit e && isClear (commitVerdict w (e .number))
 
 -- who commits at an event, by it or by leaving a queue
 unfoldable pub committersAt : Ledger → Event → List ℕ

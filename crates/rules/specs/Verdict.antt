@@ -1,13 +1,26 @@
--- RULES 4.7: the verdict of an action that enters its queue, settled there and then. Assumes nothing.
+-- What is found against an action when it asks to commit, by the table's rule; and RULES 4.7: the verdict of one that enters its
+-- queue, settled there and then. Assumes nothing.
 use Prim.Native.Nat.{ℕ}
 use mathlib.Core.Bool.{Bool, not, cond, _&&_}
 use mathlib.Core.List.{List}
 use lib.Dec.{eqb}
 use Rattle.rules.specs.Range.{any}
 use Rattle.rules.specs.Card.{accounts}
-use Rattle.rules.specs.Table.{parentOf, hasRead, hasWritten}
+use Rattle.rules.specs.declared.Found.{Found}
+use Rattle.rules.specs.Table.{parentOf, isForward, hasRead, hasWritten}
 use Rattle.rules.specs.Queue.{good, failed, queue}
 use Rattle.rules.specs.Clash.{isClear, firstClash}
+use Rattle.rules.specs.Ahead.{firstAhead}
+
+-- RULES 4.5 and 4.6: what n's commit is judged by: under rule 1 its first clash, under rule 2 the first reader ahead of it. Under
+-- rule 1 the first number is an end time, under rule 2 an action.
+unfoldable pub commitVerdict : List ℕ → ℕ → Found
+commitVerdict w n =
+    let clash = firstClash w n in
+    let ahead = firstAhead w n in
+    cond (isForward w) ahead clash
+
+-- ---- RULES 4.7: under rule 1 alone
 
 -- m's write set meets n's read set
 unfoldable pub meets : List ℕ → ℕ → ℕ → Bool

@@ -38,3 +38,7 @@ pub const JUDGE: u64 = 17;
 pub const QUEUE: u64 = 18;
 
 pub const TIME: u64 = 19;
+
+pub const RULE: u64 = 20;
+
+pub const MISFIT: u64 = 21;

@@ -1,4 +1,4 @@
-// What the rules say in types and numbers: answers, versions, the outcome of a clash search, and every size, place and code by
+// What the rules say in types and numbers: answers, versions, what is found against a commit, and every size, place and code by
 // name.
 // The definitions of specs/ are the rules themselves; nothing here computes.
 pub mod amount;
@@ -28,7 +28,7 @@ pub enum Answer {
     JudgedFailed(u64),
     // the end time, 0 where nothing was written
     Committed(u64),
-    // the end time and the account of the first clash
+    // what was found against the commit: see Found
     Failed(u64, u64),
     // how many actions became aborted, and how many then left the two queues
     Aborted(u64, u64),
@@ -44,9 +44,9 @@ pub struct Version {
     pub moves: u64,
 }
 
-// RULES 4: the first clash of an action that asks to commit.
+// RULES 4: what is found against an action that asks to commit, by the table's rule.
 pub enum Found {
     Nothing,
-    // its end time and its account
+    // under rule 1 the first clash, its end time and its account; under rule 2 the first reader ahead, its number and the account
     At(u64, u64),
 }

@@ -15,10 +15,18 @@ pub const TOP: u64 = 0;
 
 pub const SUB: u64 = 1;
 
+// The rules by which a table may judge commits: backward and forward validation.
+pub const BACKWARD_RULE: u64 = 1;
+
+pub const FORWARD_RULE: u64 = 2;
+
 // Words of the head.
 pub const HIGHEST_FIELD: u64 = 0;
 
 pub const COUNTER_FIELDS: u64 = 1;
+
+// RULES 1.12: the rule by which the table judges commits, less 1.
+pub const RULE_FIELD: u64 = 5;
 
 // Words of an action; a read set and a write set have one for each account, from here on.
 pub const PARENT_FIELD: u64 = 0;

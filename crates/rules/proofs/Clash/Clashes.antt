@@ -1,5 +1,4 @@
--- The clash list of an action: what is in it, when it is empty, which of its clashes is answered, and what a commit
--- answers by it. Assumes nothing.
+-- The clash list of an action: what is in it, when it is empty, and which of its clashes is the first. Assumes nothing.
 use Prim.Native.Nat.{ℕ, _≤_, _<_}
 use native.Mathlib.Omega.{arith}
 use mathlib.Core.Path.{_≡_, refl, sym, ap, _∙_}
@@ -7,7 +6,6 @@ use mathlib.Core.Logic.{_↔_, _≢_, inl, inr, ⊎-elim}
 use mathlib.Core.Bool.{true, false, _&&_}
 use mathlib.Core.List.{List, [], _∷_, List·Memᴰ, List·Memᴰ·head, List·Memᴰ·tail, List·Memᴰ·not-nil, List·Memᴰ·cases-cons, List·Memᴰ·append-cases, Memᴰ·append-left, Memᴰ·append-right}
 use borrow.Author.Tests.{le-ltb, eqb-true}
-use Rattle.rules.specs.declared.Answer.the-variants.{Committed, Failed}
 use Rattle.rules.specs.Range.{filter}
 use Rattle.rules.specs.Card.{accountCount, accounts}
 use Rattle.rules.specs.Table.{highest, parentOf, kindOf, endTime, hasRead, readTime, hasWritten, actions, isRecordOf, records}
@@ -15,12 +13,6 @@ use Rattle.rules.specs.Sound.{IsGiven}
 use Rattle.rules.specs.declared.Found.{Found}
 use Rattle.rules.specs.declared.Found.the-variants.{Nothing, At}
 use Rattle.rules.specs.Clash.{isClash, Pair, pairsWith, clashesWith, clashes, least, firstClash}
-use Rattle.rules.specs.Event.{Event, commitCode, isCommit}
-use Rattle.rules.specs.Cause.{isCommitOutside, areOutside, isSumOutside}
-use Rattle.rules.specs.Ledger.{Ledger}
-use Rattle.rules.specs.Commit.{commitTime}
-use Rattle.rules.specs.Step.{judged, commit, step}
-use Rattle.rules.proofs.Laws.EventCases.{causeIn, step-commits}
 use Rattle.rules.proofs.Laws.Tests.{and-left, and-right, and-false, not-both}
 use Rattle.rules.proofs.Laws.Ranges.{filter-only, filter-every}
 use Rattle.rules.proofs.Clash.Firsts.{Before, Pairs, FindsPair, no-pair, pair-at, pair-once, pair-same, OrPair, earlier-pair}
@@ -212,54 +204,3 @@ module _ (w : List ℕ) (n : ℕ) where
   pub firstClash-none : (firstClash w n ≡ Nothing) ↔ (clashes w n ≡ [])
   unfolding firstClash least
   firstClash-none = (λ e. empty-of-no-member (clashes w n) (nothing-found (rw e at firstClash-finds)), λ e. rw e)
-
--- ---- what a commit answers
-
-module _ (s : Ledger) (n : ℕ) where
-  -- RULES 4.5
-  pub no-clash-commits : clashes (s .table) n ≡ [] → commit s n .answer ≡ Committed (commitTime (s .table) n)
-  unfolding commit judged
-  no-clash-commits e = rw (firstClash-none (s .table) n .1 e)
-
-  -- RULES 4.6, with the numbers of 4.3
-  first-clash-fails : (t k : ℕ) → firstClash (s .table) n ≡ At t k → commit s n .answer ≡ Failed t k
-  unfolding commit judged
-  first-clash-fails t k e = rw e
-
-  pub clash-fails :
-      clashes (s .table) n ≢ [] →
-      (t : ℕ) × (k : ℕ) × (firstClash (s .table) n ≡ At t k) × (commit s n .answer ≡ Failed t k)
-  clash-fails some = go (firstClash (s .table) n) refl
-    where
-      go :
-          (f : Found) → firstClash (s .table) n ≡ f →
-          (t : ℕ) × (k : ℕ) × (firstClash (s .table) n ≡ At t k) × (commit s n .answer ≡ Failed t k)
-      go Nothing e = absurd (some (firstClash-none (s .table) n .0 e))
-      go (At t k) e = (t, k, e, first-clash-fails t k e)
-
-  pub committed-no-clash : (t : ℕ) → commit s n .answer ≡ Committed t → clashes (s .table) n ≡ []
-  committed-no-clash t said = go (firstClash (s .table) n) refl
-    where
-      go : (f : Found) → firstClash (s .table) n ≡ f → clashes (s .table) n ≡ []
-      go Nothing e = firstClash-none (s .table) n .0 e
-      -- the answer would be both Failed and Committed
-      go (At u k) e = let failed = first-clash-fails u k e in cc
-
--- a commit that isn't refused answers committed exactly when the clash list is empty
-pub committed-exactly :
-    (s : Ledger) (e : Event) → causeIn s e ≡ 0 → isCommit e ≡ true →
-    ((t : ℕ) × (step s e .answer ≡ Committed t)) ↔ (clashes (s .table) (e .number) ≡ [])
-committed-exactly s e allowed is =
-    let same = step-commits s e allowed is in (
-      λ h. committed-no-clash s (e .number) (h .0) (ap (λ o. o .answer) (sym same) ∙ h .1),
-      λ h. (commitTime (s .table) (e .number), ap (λ o. o .answer) same ∙ no-clash-commits s (e .number) h),
-    )
-
--- RULES 8.4: a commit with a clash isn't refused for its sums
-pub clash-makes-no-sum :
-    (s : Ledger) (e : Event) → isCommit e ≡ true → clashes (s .table) (e .number) ≢ [] →
-    isSumOutside (s .table) (s .base) e ≡ false
-unfolding areOutside isCommitOutside
-clash-makes-no-sum s e is some =
-    let (t, k, found, failed) = clash-fails s (e .number) some in
-    rw (eqb-true (e .code) commitCode is, found)

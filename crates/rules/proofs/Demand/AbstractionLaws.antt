@@ -12,13 +12,14 @@ use lib.IntN.{ℤ, pos, _+ℤ_, +ℤ-idl}
 use borrow.Author.Tests.{ltb-true, leb-true, leb-false, not-true, lt-ltb, le-ltb, le-leb}
 use Rattle.rules.specs.Card.{accountCount, firstCharge, isCharge, IsCharge, basePlace, shadowPlace, cardAt}
 use Rattle.rules.specs.Amount.{amountOf}
-use Rattle.rules.specs.Table.{newTable, mostActions, word, highest, parentOf, hasRead, hasWritten, hasCard, pendingSum, isLive}
+use Rattle.rules.specs.Table.{newTableUnder, mostActions, word, highest, parentOf, hasRead, hasWritten, hasCard, pendingSum, isLive}
 use Rattle.rules.specs.Walk.{Climbs}
 use Rattle.rules.specs.Sound.{IsGiven}
 use Rattle.rules.specs.Ledger.{Ledger}
 use Rattle.rules.specs.Serial.Effect.{nothing, puts, adds, lay}
 use Rattle.rules.proofs.Laws.Tests.{test, and-left, and-right, and-both, and-holds, cond-holds}
 use Rattle.rules.proofs.Laws.Amounts.{amount-zero}
+use Rattle.rules.proofs.Laws.NewTables.{new-highest}
 use Rattle.rules.proofs.Laws.Walking.{walk-store, walk-step, movesToStore, movesToStore-step}
 use Rattle.rules.proofs.Serial.Values.{over, hides}
 use Rattle.rules.proofs.Serial.AbstractState.{Tree}
@@ -46,9 +47,8 @@ module _ (w : List ℕ) (X : ℕ) where
   live-alive begun = and-both (and-both (le-leb 1 X (begun .0)) (le-leb X (highest w) (begun .1)))
 
 -- no number has been given in a new table
-pub new-nobody-alive : (X : ℕ) → isAlive newTable X ≡ true → ⊥
-unfolding newTable word
-new-nobody-alive X l = omega (arith, alive-given newTable X l)
+pub new-nobody-alive : (r X : ℕ) → isAlive (newTableUnder r) X ≡ true → ⊥
+new-nobody-alive r X l = omega (arith, alive-given (newTableUnder r) X l, new-highest r)
 
 module _ (w : List ℕ) (X k : ℕ) where
   pub read-account : hasReadAccount w X k ≡ true → k < accountCount

@@ -1,10 +1,12 @@
--- The rule by which commits are judged, RULES 4.2: backwards, by what has committed since the reads. Assumes nothing.
+-- Rule 1, by which commits are judged backwards, RULES 4.2: by what has committed since the reads. Assumes nothing.
 use Prim.Native.Nat.{ℕ}
-use mathlib.Core.Path.{_≡_, refl}
+use mathlib.Core.Path.{_≡_, refl, sym, _∙_}
 use Rattle.rules.specs.Range.{upFrom}
 use Rattle.rules.specs.Kind.{IsKind}
+use Rattle.rules.specs.Table.{backwardRule}
 use Rattle.rules.specs.Queue.{queueLength, queue}
 use Rattle.rules.specs.Ledger.{Ledger}
+use Rattle.rules.proofs.Clash.CommitAnswers.{backward-verdict}
 use Rattle.rules.proofs.Serial.Stale.{stale-rule}
 use Rattle.rules.proofs.Demand.Abstraction.{abstraction, Stale}
 use Rattle.rules.proofs.Demand.WaitingRule.{WaitingRule}
@@ -27,7 +29,7 @@ none-waits : (s : Ledger) → ((h : ℕ) → IsKind h → queueLength (s .table)
 unfolding queue upFrom Waits
 none-waits s empty h known = rw (empty h known) tt
 
-backward-waits : WaitingRule (stale-rule abstraction Stale)
+backward-waits : WaitingRule backwardRule (stale-rule abstraction Stale)
 backward-waits =
     record {
       Waiting = Waiting;
@@ -38,7 +40,7 @@ backward-waits =
       waits-add = λ s proper n k p charge card fits. waits-entering s proper n k p _ _ (add-enters s proper n k p charge card fits);
       waits-fail = waits-fail;
       waits-abort = waits-abort;
-      waits-enter = waits-enter;
+      waits-enter = λ s proper n free _ _. waits-enter s proper n free;
       waits-ready = waits-ready;
       waits-out = waits-out;
       waits-commit = λ s proper n free. waits-commit proper free;
@@ -49,8 +51,9 @@ backward-waits =
 pub backward : JudgingRule
 backward =
     record {
+      number = backwardRule;
       rule = stale-rule abstraction Stale;
-      passes = λ s proper n j. no-clash-passes s n;
+      passes = λ s proper n j ruled clear. no-clash-passes s n (sym (backward-verdict (s .table) n (rw ruled refl)) ∙ clear);
       at-start = start-old;
       at-read = read-old;
       at-write = λ s proper n k p below card whole. entering-old proper p (write-enters s proper n k p below card whole);
@@ -61,3 +64,7 @@ backward =
       at-commit = λ s proper n j. stale-at-commit proper j refl;
       waits = backward-waits;
     }
+
+pub backward-number : backward .number ≡ backwardRule
+unfolding backward
+backward-number = refl

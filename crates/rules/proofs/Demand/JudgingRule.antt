@@ -8,8 +8,8 @@ use lib.IntN.{_+ℤ_}
 use Rattle.rules.specs.declared.Found.the-variants.{Nothing}
 use Rattle.rules.specs.Card.{firstCharge, IsCharge, IsCard}
 use Rattle.rules.specs.Amount.{isAmount, amountIn}
-use Rattle.rules.specs.Table.{aborted, parentOf, withState, pendingSum}
-use Rattle.rules.specs.Clash.{firstClash}
+use Rattle.rules.specs.Table.{aborted, parentOf, withState, pendingSum, ruleOf}
+use Rattle.rules.specs.Verdict.{commitVerdict}
 use Rattle.rules.specs.Ledger.{Ledger, withTable}
 use Rattle.rules.specs.Kind.{IsKind}
 use Rattle.rules.specs.Queue.{Entry, withQueue}
@@ -24,9 +24,12 @@ use Rattle.rules.proofs.Demand.Proper.{Proper}
 use Rattle.rules.proofs.Demand.WaitingRule.{WaitingRule}
 
 pub record JudgingRule : Type 1 where
+  -- RULES 1.12: the rule's number, by which a table says that it is under it
+  pub number : ℕ
   pub rule : Rule abstraction
   pub passes :
-      (s : Ledger) → Proper s → (n : ℕ) → Committable (s .table) n → firstClash (s .table) n ≡ Nothing → rule .pass s n
+      (s : Ledger) → Proper s → (n : ℕ) → Committable (s .table) n → ruleOf (s .table) ≡ number →
+      commitVerdict (s .table) n ≡ Nothing → rule .pass s n
   pub at-start : (s : Ledger) → Proper s → (p : ℕ) → Startable (s .table) p → rule .CalmFacts s (start s p .after)
   pub at-read : (s : Ledger) → Proper s → (n k : ℕ) → Touchable (s .table) n k → rule .CalmFacts s (read s n k .after)
   pub at-write :
@@ -49,4 +52,4 @@ pub record JudgingRule : Type 1 where
   pub at-commit :
       (s : Ledger) → Proper s → (n : ℕ) → Committable (s .table) n →
       rule .CommitFacts s (committedUnder s n (parentOf (s .table) n)) n (parentOf (s .table) n)
-  pub waits : WaitingRule rule
+  pub waits : WaitingRule number rule

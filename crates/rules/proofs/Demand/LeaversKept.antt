@@ -6,7 +6,7 @@ use mathlib.Core.Path.{_≡_, refl, _∙_}
 use mathlib.Core.Bool.{Bool, true, false}
 use mathlib.Core.List.{List, [], _∷_, _++_}
 use Rattle.rules.specs.Kind.{IsKind, topKind, subKind}
-use Rattle.rules.specs.Table.{parentOf, kindOf}
+use Rattle.rules.specs.Table.{parentOf, kindOf, ruleOf, isForward}
 use Rattle.rules.specs.Queue.{isHeadReady, isQueuedFailed, withTail, withReady, withoutBelow}
 use Rattle.rules.specs.Verdict.{verdictOf}
 use Rattle.rules.specs.Sound.{Sound}
@@ -49,16 +49,18 @@ module _ (J : JudgingRule) (got ground opening : ℕ → AccountValue) (i : ℕ)
   module _ {s : Ledger} {c : Known} (kept : KeptIn s c) where
     -- ---- the steps
 
-    pub enter-queue-kept : (n : ℕ) → Committable (s .table) n → KeptIn (enter s n .after) c
+    pub enter-queue-kept :
+        (n : ℕ) → Committable (s .table) n → ruleOf (s .table) ≡ J .number → isForward (s .table) ≡ false →
+        KeptIn (enter s n .after) c
     unfolding enter enterTable withTail
-    enter-queue-kept n free =
+    enter-queue-kept n free ruled fits =
         let h = kindOf (s .table) n in
         let known = kind-known (parentOf (s .table) n) in
         let change = tail-change (kept .proper .sound) h known n refl free (verdictOf (s .table) h n) n in
         drop-kept J got ground opening kept i _ (change-keeps-proper (kept .proper) change)
         (queue-drops s (kept .proper) h known _ change)
         (J .at-queue s (kept .proper) h known _ change)
-        (J .waits .waits-enter s (kept .proper) n free (kept .waiting))
+        (J .waits .waits-enter s (kept .proper) n free ruled fits (kept .waiting))
 
     module _ (h : ℕ) (known : IsKind h) (n : ℕ) where
       ready-kept : isQueuedFailed (s .table) h n ≡ false → KeptIn (withTable s (withReady (s .table) h n)) c

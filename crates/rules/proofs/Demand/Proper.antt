@@ -28,8 +28,9 @@ pub record Proper (s : Ledger) : Type 0 where
   pub baseFits : length (s .base) ≡ baseLength
   pub shadowFits : length (s .shadow) ≡ shadowLength
 
-pub new-proper : (base shadow : List ℕ) → length base ≡ baseLength → length shadow ≡ shadowLength → Proper (newOver base shadow)
-new-proper base shadow baseFits shadowFits = record { sound = new-sound; baseFits = baseFits; shadowFits = shadowFits }
+pub new-proper :
+    (r : ℕ) (base shadow : List ℕ) → length base ≡ baseLength → length shadow ≡ shadowLength → Proper (newOver r base shadow)
+new-proper r base shadow baseFits shadowFits = record { sound = new-sound r; baseFits = baseFits; shadowFits = shadowFits }
 
 -- ---- what keeps it so
 

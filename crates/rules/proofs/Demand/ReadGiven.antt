@@ -108,6 +108,7 @@ module _ (s : Ledger) (proper : Proper s) (n k : ℕ) (permitted : Touchable (s 
           early =
               record {
                 codeKnown = omega arith;
+                ruleFits = λ waits. absurd (false≢true waits);
                 numberKnown = own-after .1;
                 named = λ _. own .0;
                 alive = λ _. alive-after;

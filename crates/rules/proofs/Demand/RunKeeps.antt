@@ -9,10 +9,10 @@ use Rattle.rules.specs.declared.Found.{Found}
 use Rattle.rules.specs.declared.Found.the-variants.{Nothing, At}
 use Rattle.rules.specs.Card.{firstCharge, IsCharge, IsCard}
 use Rattle.rules.specs.Amount.{isAmount, amountIn}
-use Rattle.rules.specs.Table.{pendingSum}
+use Rattle.rules.specs.Table.{pendingSum, ruleOf, isForward}
 use Rattle.rules.specs.Event.{Event}
 use Rattle.rules.specs.Answer.{said}
-use Rattle.rules.specs.Clash.{firstClash}
+use Rattle.rules.specs.Verdict.{commitVerdict}
 use Rattle.rules.specs.Cause.{isReadOutside, isCommitOutside}
 use Rattle.rules.specs.Ledger.{Ledger}
 use Rattle.rules.specs.Table.{parentOf, kindOf}
@@ -34,6 +34,7 @@ use Rattle.rules.proofs.Demand.Adds.{add-enters}
 use Rattle.rules.proofs.Demand.Drops.{fail-drops}
 use Rattle.rules.proofs.Demand.JudgingRule.{JudgingRule}
 use Rattle.rules.proofs.Demand.LeaversKept.{enter-queue-kept, dropped-kept, revealed-kept, leave-kept, both-leave-kept}
+use Rattle.rules.proofs.Sound.RuleKept.{step-keeps-rule}
 use Rattle.rules.proofs.Demand.Collected.{Kept, drop-kept, start-kept, read-kept, enter-kept, pass-kept}
 
 -- ---- what a place was given
@@ -54,7 +55,7 @@ judge-told false left leavers = refl
 
 module _
     (J : JudgingRule) (got ground opening : ℕ → AccountValue) (i : ℕ) (e : Event) {s : Ledger} {c : Known}
-    (kept : Kept J got ground opening s c) where
+    (kept : Kept J got ground opening s c) (ruled : ruleOf (s .table) ≡ J .number) where
   -- what is kept is kept after an outcome that is proper, where got and ground have what it gives
   KeptAfter : Outcome → List ℕ → Type 0
   KeptAfter o leavers =
@@ -99,20 +100,20 @@ module _
   -- a commit event: nobody of its kind waits
   judges :
       Committable (s .table) (e .number) → queueLength (s .table) (kindOf (s .table) (e .number)) ≡ 0 →
-      (f : Found) → firstClash (s .table) (e .number) ≡ f →
+      (f : Found) → commitVerdict (s .table) (e .number) ≡ f →
       isCommitOutside (s .table) (s .base) (e .number) f ≡ false → KeptAfter (judged s (e .number) f) []
   unfolding KeptAfter judged collectOne commitsAt stepped laidAll
   judges j empty Nothing clear fits proper′ seen below =
-      pass-kept J got ground opening kept i (e .number) j fits proper′ (J .passes s (kept .proper) (e .number) j clear)
+      pass-kept J got ground opening kept i (e .number) j fits proper′ (J .passes s (kept .proper) (e .number) j ruled clear)
       (J .waits .waits-commit s (kept .proper) (e .number) j empty (kept .waiting))
-  judges j empty (At t k) clash fits proper′ seen below =
+  judges j empty (At a k) found fits proper′ seen below =
       drop-kept J got ground opening kept i _ proper′
       (fail-drops s (kept .proper) (e .number) j) (J .at-failed-commit s (kept .proper) (e .number) j)
       (J .waits .waits-fail s (kept .proper) (e .number) j (kept .waiting))
 
-  enters : Committable (s .table) (e .number) → KeptAfter (enter s (e .number)) []
+  enters : Committable (s .table) (e .number) → isForward (s .table) ≡ false → KeptAfter (enter s (e .number)) []
   unfolding KeptAfter enter collectOne commitsAt stepped laidAll
-  enters free proper′ seen below = enter-queue-kept J got ground opening i kept (e .number) free
+  enters free fits proper′ seen below = enter-queue-kept J got ground opening i kept (e .number) free ruled fits
 
   reveals : Judgeable (s .table) (e .number) → KeptAfter (judge s (e .number)) (judgeLeft s (e .number) .commits)
   unfolding KeptAfter judge judgeLeft collectOne commitsAt stepped
@@ -145,10 +146,11 @@ GivesAlong got ground i s (e ∷ es) =
 
 pub run-keeps :
     (J : JudgingRule) (got ground opening : ℕ → AccountValue) (i : ℕ) (es : List Event) {s : Ledger} {c : Known} →
-    Kept J got ground opening s c → GivesAlong got ground i s es →
+    Kept J got ground opening s c → ruleOf (s .table) ≡ J .number → GivesAlong got ground i s es →
     Kept J got ground opening (run s es .after) (collectFrom i es (toldAll (run s es .answers) (run s es .leavers)) c)
 unfolding run toldAll collectFrom GivesAlong KeptAfter
-run-keeps J got ground opening i [] kept given = kept
-run-keeps J got ground opening i (e ∷ es) {s} kept (seen, below, later) =
+run-keeps J got ground opening i [] kept ruled given = kept
+run-keeps J got ground opening i (e ∷ es) {s} kept ruled (seen, below, later) =
     run-keeps J got ground opening (suc i) es
-    (step-keeps J got ground opening i e kept (step-keeps-proper s e (kept .proper)) seen below) later
+    (step-keeps J got ground opening i e kept ruled (step-keeps-proper s e (kept .proper)) seen below)
+    (step-keeps-rule s e (kept .proper .sound) ∙ ruled) later

@@ -1,15 +1,14 @@
 -- Demand 3 and conservation: what the collector and the engine keep through every list of events gives the statements of
 -- specs/Serial/Demand.antt and specs/Serial/Conserved.antt. Assumes nothing.
-use Prim.Native.Nat.{ℕ, zero, suc, _+_}
-use native.Mathlib.Omega.{arith}
+use Prim.Native.Nat.{ℕ, suc, _+_}
 use native.Mathlib.Nat.{zero-add, add-zero, add-suc, suc-add}
 use mathlib.Core.Path.{_≡_, refl, sym, ap, _∙_}
+use mathlib.Core.Bool.{Bool, true, false, cond}
 use mathlib.Core.List.{List, [], _∷_}
+use lib.Dec.{eqb}
 use lib.ListN.{length, take, getD}
 use Rattle.rules.specs.Card.{baseLength, shadowLength, basePlace, cardAt}
-use Rattle.rules.specs.Table.{newTable, word}
-use Rattle.rules.specs.Kind.{IsKind}
-use Rattle.rules.specs.Queue.{queueLength}
+use Rattle.rules.specs.Table.{newTableUnder, ruleOf, backwardRule, forwardRule}
 use Rattle.rules.specs.Event.{Event, startUnder}
 use Rattle.rules.specs.Ledger.{Ledger}
 use Rattle.rules.specs.Step.{step}
@@ -19,6 +18,7 @@ use Rattle.rules.specs.Serial.Machine.{serial}
 use Rattle.rules.specs.Serial.Demand.{cardGiven, newOver, toldOf, sumGiven, Demand3}
 use Rattle.rules.specs.Serial.Conserved.{Conserved}
 use Rattle.rules.proofs.Laws.Bytes.{store-by-cards}
+use Rattle.rules.proofs.Laws.NewTables.{new-rule, new-queues-empty}
 use Rattle.rules.proofs.Serial.Values.{AccountValue, accountValues}
 use Rattle.rules.proofs.Serial.Blocks.{after}
 use Rattle.rules.proofs.Serial.GroundedRule.{grounded-opening}
@@ -31,7 +31,8 @@ use Rattle.rules.proofs.Demand.Proper.{new-proper}
 use Rattle.rules.proofs.Demand.AbstractionLaws.{new-nobody-alive}
 use Rattle.rules.proofs.Demand.Looks.{seenWith, shownUnder, card-looked, sum-answered}
 use Rattle.rules.proofs.Demand.JudgingRule.{JudgingRule}
-use Rattle.rules.proofs.Demand.Backward.{backward}
+use Rattle.rules.proofs.Demand.Backward.{backward, backward-number}
+use Rattle.rules.proofs.Demand.Forward.{forward, forward-number}
 use Rattle.rules.proofs.Demand.Collected.{Kept}
 use Rattle.rules.proofs.Demand.RunKeeps.{GivesAlong, run-keeps}
 
@@ -75,42 +76,38 @@ given-along got ground i s (e ∷ es) seen below = (
 
 -- ---- under any judging rule
 
-new-queues-empty : (h : ℕ) → IsKind h → queueLength newTable h ≡ 0
-unfolding newTable word
-new-queues-empty zero known = refl
-new-queues-empty (suc zero) known = refl
-new-queues-empty (suc (suc h)) known = absurd (omega arith)
-
-module _ (J : JudgingRule) (base shadow : List ℕ) (baseFits : length base ≡ baseLength) (shadowFits : length shadow ≡ shadowLength) where
-  kept-at-first : (got ground : ℕ → AccountValue) → Kept J got ground (shownBase base) (newOver base shadow) unknown
+module _
+    (J : JudgingRule) (r : ℕ) (ruled : ruleOf (newTableUnder r) ≡ J .number) (base shadow : List ℕ)
+    (baseFits : length base ≡ baseLength) (shadowFits : length shadow ≡ shadowLength) where
+  kept-at-first : (got ground : ℕ → AccountValue) → Kept J got ground (shownBase base) (newOver r base shadow) unknown
   unfolding unknown Whole OnlyChildren
   kept-at-first got ground =
       record {
-        proper = new-proper base shadow baseFits shadowFits;
+        proper = new-proper r base shadow baseFits shadowFits;
         holds =
-            grounded-opening (J .rule) accountCharges got ground (shownBase base) new-nobody-alive (λ k. refl) refl;
-        parents = λ X l. absurd (new-nobody-alive X l);
+            grounded-opening (J .rule) accountCharges got ground (shownBase base) (new-nobody-alive r) (λ k. refl) refl;
+        parents = λ X l. absurd (new-nobody-alive r X l);
         whole = λ n. tt;
         top = tt;
-        waiting = J .waits .none-waits (newOver base shadow) new-queues-empty;
+        waiting = J .waits .none-waits (newOver r base shadow) (new-queues-empty r);
       }
 
   module _ (es : List Event) where
     abbrev got : ℕ → AccountValue
-    got = seenAt (newOver base shadow) es
+    got = seenAt (newOver r base shadow) es
 
     abbrev ground : ℕ → AccountValue
-    ground = groundAt (newOver base shadow) es
+    ground = groundAt (newOver r base shadow) es
 
     abbrev final : Ledger
-    final = run (newOver base shadow) es .after
+    final = run (newOver r base shadow) es .after
 
-    kept-at-last : Kept J got ground (shownBase base) final (collectFrom 0 es (toldOf base shadow es) unknown)
+    kept-at-last : Kept J got ground (shownBase base) final (collectFrom 0 es (toldOf r base shadow es) unknown)
     kept-at-last =
-        run-keeps J got ground (shownBase base) 0 es (kept-at-first got ground)
-        (given-along got ground 0 (newOver base shadow) es (λ j. ap got (zero-add j)) (λ j. ap ground (zero-add j)))
+        run-keeps J got ground (shownBase base) 0 es (kept-at-first got ground) ruled
+        (given-along got ground 0 (newOver r base shadow) es (λ j. ap got (zero-add j)) (λ j. ap ground (zero-add j)))
 
-    block-ran : SerialRun got ground (storeBlock es (toldOf base shadow es)) base (serial es (toldOf base shadow es) base)
+    block-ran : SerialRun got ground (storeBlock es (toldOf r base shadow es)) base (serial es (toldOf r base shadow es) base)
     unfolding serial storeBlock
     block-ran =
         block-runs got ground _ (kept-at-last .whole 0) (kept-at-last .top) base baseFits
@@ -118,39 +115,59 @@ module _ (J : JudgingRule) (base shadow : List ℕ) (baseFits : length base ≡ 
 
     -- what the store's block leaves is what the base store shows after S
     block-leaves :
-        (k : ℕ) → after accountValues (storeBlock es (toldOf base shadow es)) (shownBase base) k ≡ shownBase (final .base) k
+        (k : ℕ) → after accountValues (storeBlock es (toldOf r base shadow es)) (shownBase base) k ≡ shownBase (final .base) k
     unfolding storeBlock
     block-leaves = kept-at-last .holds .holds .store .leaves
 
     same-cards :
-        (k : ℕ) → cardAt (serial es (toldOf base shadow es) base .base) (basePlace k) ≡ cardAt (final .base) (basePlace k)
+        (k : ℕ) → cardAt (serial es (toldOf r base shadow es) base .base) (basePlace k) ≡ cardAt (final .base) (basePlace k)
     same-cards k =
         sym (card-shown k _) ∙ ap cardShown (block-ran .leaves k ∙ block-leaves k) ∙ card-shown k _
 
-    demand3-under : Demand3 base shadow es
+    demand3-under : Demand3 r base shadow es
     demand3-under =
         record {
-          reads = λ g m. block-ran .reads g m .card ∙ card-given (newOver base shadow) es (g .place);
-          amounts = λ g m. block-ran .reads g m .amount ∙ sum-given (newOver base shadow) es (g .place);
+          reads = λ g m. block-ran .reads g m .card ∙ card-given (newOver r base shadow) es (g .place);
+          amounts = λ g m. block-ran .reads g m .amount ∙ sum-given (newOver r base shadow) es (g .place);
           store = store-by-cards _ _ (block-ran .long) (kept-at-last .proper .baseFits) (λ k _. same-cards k);
-          exact = exact-acts es (toldOf base shadow es);
-          order = in-order es (toldOf base shadow es);
+          exact = exact-acts es (toldOf r base shadow es);
+          order = in-order es (toldOf r base shadow es);
         }
 
-    conserved-under : Conserved base shadow es
+    conserved-under : Conserved r base shadow es
     unfolding storeBlock
     conserved-under =
         record {
           conserves = λ k charge.
-              store-conserves es (toldOf base shadow es) (kept-at-last .whole 0) charge base (final .base) (block-leaves k);
+              store-conserves es (toldOf r base shadow es) (kept-at-last .whole 0) charge base (final .base) (block-leaves k);
         }
 
 -- ---- under the engine's
 
+-- the judging rule of a table that was opened under r, by whether that is rule 2
+chosen : Bool → JudgingRule
+chosen true = forward
+chosen false = backward
+
+chosen-number : (b : Bool) → chosen b .number ≡ cond b forwardRule backwardRule
+unfolding chosen
+chosen-number true = forward-number
+chosen-number false = backward-number
+
+judging : ℕ → JudgingRule
+judging r = chosen (eqb r forwardRule)
+
+opened-under : (r : ℕ) → ruleOf (newTableUnder r) ≡ judging r .number
+unfolding judging
+opened-under r = new-rule r ∙ sym (chosen-number (eqb r forwardRule))
+
+-- for both rules; where r is neither, the table is under rule 1
 pub demand3 :
-    (base shadow : List ℕ) → length base ≡ baseLength → length shadow ≡ shadowLength → (es : List Event) → Demand3 base shadow es
-demand3 = demand3-under backward
+    (r : ℕ) (base shadow : List ℕ) → length base ≡ baseLength → length shadow ≡ shadowLength → (es : List Event) →
+    Demand3 r base shadow es
+demand3 r = demand3-under (judging r) r (opened-under r)
 
 pub conserved :
-    (base shadow : List ℕ) → length base ≡ baseLength → length shadow ≡ shadowLength → (es : List Event) → Conserved base shadow es
-conserved = conserved-under backward
+    (r : ℕ) (base shadow : List ℕ) → length base ≡ baseLength → length shadow ≡ shadowLength → (es : List Event) →
+    Conserved r base shadow es
+conserved r = conserved-under (judging r) r (opened-under r)

@@ -8,7 +8,7 @@ use lib.IntN.{_+ℤ_}
 use Rattle.rules.specs.Card.{firstCharge, IsCharge, IsCard}
 use Rattle.rules.specs.Amount.{isAmount, amountIn}
 use Rattle.rules.specs.Kind.{IsKind}
-use Rattle.rules.specs.Table.{parentOf, kindOf, pendingSum}
+use Rattle.rules.specs.Table.{parentOf, kindOf, pendingSum, ruleOf, isForward}
 use Rattle.rules.specs.Queue.{queueLength, isQueuedFailed, isHeadReady, withReady}
 use Rattle.rules.specs.Ledger.{Ledger, withTable}
 use Rattle.rules.specs.Commit.{committedUnder}
@@ -19,7 +19,7 @@ use Rattle.rules.proofs.Serial.Rule.{Rule}
 use Rattle.rules.proofs.Demand.Abstraction.{abstraction}
 use Rattle.rules.proofs.Demand.Proper.{Proper}
 
-pub record WaitingRule (rule : Rule abstraction) : Type 1 where
+pub record WaitingRule (number : ℕ) (rule : Rule abstraction) : Type 1 where
   pub Waiting : Ledger → Type 0
   -- it holds of empty queues
   pub none-waits : (s : Ledger) → ((h : ℕ) → IsKind h → queueLength (s .table) h ≡ 0) → Waiting s
@@ -37,7 +37,10 @@ pub record WaitingRule (rule : Rule abstraction) : Type 1 where
   pub waits-abort :
       (s : Ledger) (proper : Proper s) (n : ℕ) → Spared (s .table) n (proper .sound) →
       Waiting s → Waiting (withTable s (abortTable (s .table) n))
-  pub waits-enter : (s : Ledger) → Proper s → (n : ℕ) → Committable (s .table) n → Waiting s → Waiting (enter s n .after)
+  -- an enter of which the rule is not a misfit
+  pub waits-enter :
+      (s : Ledger) → Proper s → (n : ℕ) → Committable (s .table) n → ruleOf (s .table) ≡ number → isForward (s .table) ≡ false →
+      Waiting s → Waiting (enter s n .after)
   pub waits-ready :
       (s : Ledger) → Proper s → (h : ℕ) → IsKind h → (n : ℕ) → isQueuedFailed (s .table) h n ≡ false → Waiting s →
       Waiting (withTable s (withReady (s .table) h n))

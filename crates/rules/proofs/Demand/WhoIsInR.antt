@@ -247,7 +247,7 @@ module _ (s : Ledger) (proper : Proper s) (e : Event) where
   unfolding AsTold
   event-tells =
       step-by-kind s e AsTold refused starts (λ permitted _. reads permitted) writes (λ j _ f _. judges j f)
-      (λ permitted _ charge fits. joins permitted charge (fits .pendingFits)) enters reveals aborts
+      (λ permitted _ charge fits. joins permitted charge (fits .pendingFits)) (λ free _. enters free) reveals aborts
 
 -- ---- a list of events
 
@@ -256,16 +256,16 @@ unfolding run toldAll
 run-tells [] proper = no-more
 run-tells (e ∷ es) {s} proper = tells-then (event-tells s proper e) (run-tells es (step-keeps-proper s e proper))
 
-module _ (base shadow : List ℕ) (baseFits : length base ≡ baseLength) (shadowFits : length shadow ≡ shadowLength) where
-  agree-when-new : Agree (abstraction (newOver base shadow)) (λ n. 0) noStarts
+module _ (r : ℕ) (base shadow : List ℕ) (baseFits : length base ≡ baseLength) (shadowFits : length shadow ≡ shadowLength) where
+  agree-when-new : Agree (abstraction (newOver r base shadow)) (λ n. 0) noStarts
   agree-when-new =
-      agree-at-first (abstract-tree (newOver base shadow) (new-proper base shadow baseFits shadowFits)) new-nobody-alive
+      agree-at-first (abstract-tree (newOver r base shadow) (new-proper r base shadow baseFits shadowFits)) (new-nobody-alive r)
 
-  pub plain-R : (es : List Event) → PlainR base shadow es
+  pub plain-R : (es : List Event) → PlainR r base shadow es
   unfolding lineageOf noStarts
   plain-R es =
-      let ordered = from-ordered ordered-at-first es (toldOf base shadow es) in
-      let all = run-tells es (new-proper base shadow baseFits shadowFits) in
+      let ordered = from-ordered ordered-at-first es (toldOf r base shadow es) in
+      let all = run-tells es (new-proper r base shadow baseFits shadowFits) in
       record {
         rule = inR-by-rule ordered;
         unique = rule-decides ordered;

@@ -90,4 +90,4 @@ module _ {s : Ledger} (proper : Proper s) (e : Event) {had : History} (remembers
   unfolding historyOne RemembersAfter commitsAt withRecords withoutGiven
   step-remembers =
       step-by-kind s e RemembersAfter remembers starts (λ permitted _. reads permitted) writes (λ free _ f _ _. judges free f)
-      (λ permitted _ charge fits. adds permitted charge fits) enters reveals aborts
+      (λ permitted _ charge fits. adds permitted charge fits) (λ free _. enters free) reveals aborts

@@ -17,16 +17,16 @@ use Rattle.rules.proofs.Demand.Proper.{new-proper, run-keeps-proper}
 use Rattle.rules.proofs.History.Theorem.{history-remembered, no-verdict-lost}
 
 module _
-    (base shadow : List ℕ) (baseFits : length base ≡ baseLength) (shadowFits : length shadow ≡ shadowLength) (es : List Event) where
-  sound-after : Sound (ledgerAfter base shadow es .table)
-  sound-after = run-keeps-proper (newOver base shadow) es (new-proper base shadow baseFits shadowFits) .sound
+    (r : ℕ) (base shadow : List ℕ) (baseFits : length base ≡ baseLength) (shadowFits : length shadow ≡ shadowLength) (es : List Event) where
+  sound-after : Sound (ledgerAfter r base shadow es .table)
+  sound-after = run-keeps-proper (newOver r base shadow) es (new-proper r base shadow baseFits shadowFits) .sound
 
-  pub newest-of-all : NewestOfAll base shadow es
+  pub newest-of-all : NewestOfAll r base shadow es
   newest-of-all =
       record {
-        newests = history-remembered base shadow baseFits shadowFits es .newests;
+        newests = history-remembered r base shadow baseFits shadowFits es .newests;
         verdicts = λ n lives. known-clash _ sound-after n lives;
         hadVerdicts = λ n lives.
             known-clash _ sound-after n lives
-            ∙ ap (λ found. not (isClear found)) (no-verdict-lost base shadow baseFits shadowFits es .verdicts n (lives .0) (lives .1));
+            ∙ ap (λ found. not (isClear found)) (no-verdict-lost r base shadow baseFits shadowFits es .verdicts n (lives .0) (lives .1));
       }

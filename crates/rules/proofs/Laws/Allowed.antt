@@ -9,12 +9,12 @@ use lib.ListN.{length}
 use borrow.Author.Tests.{eqb-false, ne-eqb}
 use Rattle.rules.specs.Card.{accountCount, isCharge, cardLength, baseLength, shadowLength}
 use Rattle.rules.specs.Amount.{isAddable, amountIn}
-use Rattle.rules.specs.Table.{highest, kindOf, isLive, hasLiveChild, counter, lastTime}
+use Rattle.rules.specs.Table.{highest, kindOf, isLive, hasLiveChild, counter, lastTime, isForward}
 use Rattle.rules.specs.Queue.{queueLength, isQueued, isQueuedReady, isWaiting}
 use Rattle.rules.specs.Sound.{sound}
 use Rattle.rules.specs.Free.{nextNumber}
 use Rattle.rules.specs.Event.{Event, startCode, judgeCode, isStart, isRead, isWrite, isCommit, isAbort, isAdd, isEnter, isJudge}
-use Rattle.rules.specs.Cause.{isStoreLengthWrong, isCodeUnknown, isNumberUnknown, isNotLive, isTableFull, isAccountUnknown, isCardLengthWrong, isKindWrong, isAmountTooLarge, isChildLive, isQueuedAlready, isJudgeVain, isOvertaking, isTimeSpent, isSumOutside, Cause, firstCause, storeCauses, earlyCauses, lateCauses, causesOf, causeOf}
+use Rattle.rules.specs.Cause.{isStoreLengthWrong, isCodeUnknown, isNumberUnknown, isNotLive, isTableFull, isAccountUnknown, isCardLengthWrong, isKindWrong, isAmountTooLarge, isChildLive, isQueuedAlready, isJudgeVain, isOvertaking, isTimeSpent, isSumOutside, Cause, firstCause, storeCauses, earlyCauses, lateCauses, causesOf, causeOf, isRuleMisfit}
 use Rattle.rules.proofs.Laws.Tests.{not-holds, not-fails, and-holds, and-fails, and-fails-left, or-fails, eqb-holds, nonzero, leb-holds, leb-fails, ltb-fails}
 
 -- ---- what each cause denies
@@ -24,6 +24,9 @@ stores-fit base shadow = simp (not-fails, and-holds, eqb-holds) Iff·rfl
 
 code-known : (code : ℕ) → (isCodeUnknown code ≡ false) ↔ ((startCode ≤ code) × (code ≤ judgeCode))
 code-known code = simp (not-fails, and-holds, leb-holds) Iff·rfl
+
+rule-fits : (w : List ℕ) (used : Bool) → (isRuleMisfit w used ≡ false) ↔ (used ≡ true → isForward w ≡ false)
+rule-fits w used = and-fails used (isForward w)
 
 number-known : (w : List ℕ) (start : Bool) (n : ℕ) → (isNumberUnknown w start n ≡ false) ↔ ((n ≤ highest w) × (start ≡ false → 1 ≤ n))
 number-known w start n = simp (or-fails, and-fails-left, not-holds, ltb-fails, nonzero) Iff·rfl
@@ -73,6 +76,7 @@ time-left w used n = simp (and-fails, leb-fails) Iff·rfl
 -- what holds of an event that has none of the early causes
 pub record EarlyAllowed (w : List ℕ) (e : Event) : Type 0 where
   pub codeKnown : (startCode ≤ e .code) × (e .code ≤ judgeCode)
+  pub ruleFits : (isEnter e || isJudge e) ≡ true → isForward w ≡ false
   pub numberKnown : e .number ≤ highest w
   pub named : isStart e ≡ false → 1 ≤ e .number
   pub alive : 1 ≤ e .number → isLive w (e .number) ≡ true
@@ -110,20 +114,22 @@ module _ (w : List ℕ) (e : Event) where
   unfolding earlyCauses
   early-parts rest none₁ =
       let (codeUnknown, none₂) = not-given _ _ _ none₁ in
-      let (numberUnknown, none₃) = not-given _ _ _ none₂ in
-      let (notLive, none₄) = not-given _ _ _ none₃ in
-      let (full, none₅) = not-given _ _ _ none₄ in
-      let (accountUnknown, none₆) = not-given _ _ _ none₅ in
-      let (card, none₇) = not-given _ _ _ none₆ in
-      let (kind, none₈) = not-given _ _ _ none₇ in
-      let (amount, none₉) = not-given _ _ _ none₈ in
-      let (childLive, none₁₀) = not-given _ _ _ none₉ in
-      let (waiting, none₁₁) = not-given _ _ _ none₁₀ in
-      let (vain, none₁₂) = not-given _ _ _ none₁₁ in
-      let (overtaking, none₁₃) = not-given _ _ _ none₁₂ in
-      let (spent, none) = not-given _ _ _ none₁₃ in (
+      let (misfit, none₃) = not-given _ _ _ none₂ in
+      let (numberUnknown, none₄) = not-given _ _ _ none₃ in
+      let (notLive, none₅) = not-given _ _ _ none₄ in
+      let (full, none₆) = not-given _ _ _ none₅ in
+      let (accountUnknown, none₇) = not-given _ _ _ none₆ in
+      let (card, none₈) = not-given _ _ _ none₇ in
+      let (kind, none₉) = not-given _ _ _ none₈ in
+      let (amount, none₁₀) = not-given _ _ _ none₉ in
+      let (childLive, none₁₁) = not-given _ _ _ none₁₀ in
+      let (waiting, none₁₂) = not-given _ _ _ none₁₁ in
+      let (vain, none₁₃) = not-given _ _ _ none₁₂ in
+      let (overtaking, none₁₄) = not-given _ _ _ none₁₃ in
+      let (spent, none) = not-given _ _ _ none₁₄ in (
         record {
           codeKnown = code-known (e .code) .0 codeUnknown;
+          ruleFits = rule-fits w (isEnter e || isJudge e) .0 misfit;
           numberKnown = number-known w (isStart e) (e .number) .0 numberUnknown .0;
           named = number-known w (isStart e) (e .number) .0 numberUnknown .1;
           alive = number-alive w (e .number) .0 notLive;
@@ -151,6 +157,7 @@ module _ (w : List ℕ) (e : Event) where
   early-none a rest =
       rw (
         code-known (e .code) .1 (a .codeKnown),
+        rule-fits w (isEnter e || isJudge e) .1 (a .ruleFits),
         number-known w (isStart e) (e .number) .1 (a .numberKnown, a .named),
         number-alive w (e .number) .1 (a .alive),
         number-left w (isStart e) .1 (a .room),

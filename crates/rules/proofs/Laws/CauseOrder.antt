@@ -94,7 +94,7 @@ module _ (w base shadow : List ℕ) (e : Event) where
   -- the numbers, in the order in which the causes are asked
   pub causes-numbers :
       map (λ (c : Cause). c .number) (causesOf w base shadow e)
-      ≡ 1 ∷ 2 ∷ 3 ∷ 4 ∷ 5 ∷ 6 ∷ 7 ∷ 8 ∷ 13 ∷ 14 ∷ 9 ∷ 16 ∷ 17 ∷ 18 ∷ 19 ∷ 15 ∷ []
+      ≡ 1 ∷ 2 ∷ 3 ∷ 21 ∷ 4 ∷ 5 ∷ 6 ∷ 7 ∷ 8 ∷ 13 ∷ 14 ∷ 9 ∷ 16 ∷ 17 ∷ 18 ∷ 19 ∷ 15 ∷ []
   unfolding causesOf storeCauses earlyCauses lateCauses
   causes-numbers = refl
 

@@ -13,14 +13,14 @@ use Rattle.rules.specs.declared.Found.{Found}
 use Rattle.rules.specs.declared.Found.the-variants.{Nothing}
 use Rattle.rules.specs.Card.{accountCount, firstCharge, chargeCount, isCharge, chargeAccounts, IsCharge, IsCard}
 use Rattle.rules.specs.Amount.{isAmount, amountIn}
-use Rattle.rules.specs.Table.{highest, parentOf, kindOf, hasWritten, pendingSum, ownAdds, keptAfter, counter, lastTime, isLive, isLiveChildOf, hasLiveChild, actions}
+use Rattle.rules.specs.Table.{highest, parentOf, kindOf, hasWritten, pendingSum, ownAdds, keptAfter, counter, lastTime, isLive, isLiveChildOf, hasLiveChild, actions, isForward}
 use Rattle.rules.specs.Sound.{IsGiven}
 use Rattle.rules.specs.Free.{nextNumber}
 use Rattle.rules.specs.Queue.{queueLength, isQueued, isQueuedReady, isWaiting}
 use Rattle.rules.specs.Event.{Event, startCode, readCode, writeCode, commitCode, abortCode, addCode, enterCode, judgeCode, isStart, isRead, isWrite, isCommit, isAdd, isEnter, isJudge}
 use Rattle.rules.specs.Ledger.{Ledger}
 use Rattle.rules.specs.Nearest.{readSum}
-use Rattle.rules.specs.Clash.{firstClash}
+use Rattle.rules.specs.Verdict.{commitVerdict}
 use Rattle.rules.specs.Cause.{commitSum, isCopyOutside, isKeptOutside, isCommitOutside, isReadOutside, inRead, inAdd, inCommit, sumsOf, areOutside}
 use Rattle.rules.specs.Step.{start, read, write, judged, commit, add, enter, judgeLeft, judge, abortLeft, abort, step, leaversAt}
 use Rattle.rules.proofs.Laws.Tests.{and-both, not-both, or-inl, or-inr, not-fails, and-fails, or-fails, leb-holds, leb-fails}
@@ -134,7 +134,7 @@ module _ {s : Ledger} {e : Event} (a : AllowedIn s e) where
       let (pending, own) = or-fails _ _ .0 (rw (sums-of-add e is) at (a .sumsFit)) in
       record { pendingFits = not-fails _ .0 pending; ownAddsFit = not-fails _ .0 own }
 
-  commit-fits : isCommit e ≡ true → isCommitOutside (s .table) (s .base) (e .number) (firstClash (s .table) (e .number)) ≡ false
+  commit-fits : isCommit e ≡ true → isCommitOutside (s .table) (s .base) (e .number) (commitVerdict (s .table) (e .number)) ≡ false
   unfolding areOutside
   commit-fits is = rw (sums-of-commit e is) at (a .sumsFit)
 
@@ -154,11 +154,11 @@ module _ (s : Ledger) (e : Event) (P : OfStep) where
       (Touchable (s .table) (e .number) (e .account) → IsCard (e .card) → e .account < firstCharge →
       P (write s (e .number) (e .account) (e .card)) []) →
       (Committable (s .table) (e .number) → queueLength (s .table) (kindOf (s .table) (e .number)) ≡ 0 →
-      (f : Found) → firstClash (s .table) (e .number) ≡ f →
+      (f : Found) → commitVerdict (s .table) (e .number) ≡ f →
       isCommitOutside (s .table) (s .base) (e .number) f ≡ false → P (judged s (e .number) f) []) →
       (Touchable (s .table) (e .number) (e .account) → IsCard (e .card) → IsCharge (e .account) →
       AddFits (s .table) (e .number) (e .account) (e .card) → P (add s (e .number) (e .account) (e .card)) []) →
-      (Committable (s .table) (e .number) → P (enter s (e .number)) []) →
+      (Committable (s .table) (e .number) → isForward (s .table) ≡ false → P (enter s (e .number)) []) →
       (Judgeable (s .table) (e .number) → P (judge s (e .number)) (judgeLeft s (e .number) .commits)) →
       P (abort s (e .number)) (abortLeft s (e .number) .commits) →
       P (step s e) (leaversAt s e)
@@ -181,7 +181,7 @@ module _ (s : Ledger) (e : Event) (P : OfStep) where
       judges
       (end-permitted a commitCode is refl refl
       (or-inl (isEnter e) (or-inl (isAdd e) (or-inr (isRead e || isWrite e) is))) (or-inl (isEnter e) is))
-      (a .early .queueEmpty is) (firstClash (s .table) (e .number)) refl (commit-fits a is))
+      (a .early .queueEmpty is) (commitVerdict (s .table) (e .number)) refl (commit-fits a is))
       (λ is.
       adds
       (touch-permitted a addCode is refl refl
@@ -190,7 +190,8 @@ module _ (s : Ledger) (e : Event) (P : OfStep) where
       (λ is.
       enters
       (end-permitted a enterCode is refl refl
-      (or-inr (isRead e || isWrite e || isCommit e || isAdd e) is) (or-inr (isCommit e) is)))
+      (or-inr (isRead e || isWrite e || isCommit e || isAdd e) is) (or-inr (isCommit e) is))
+      (a .early .ruleFits (or-inl (isJudge e) is)))
       (λ is. reveals (judge-permitted a is))
       (λ _. aborts))
 

@@ -17,17 +17,17 @@ abbrev pub Within : ℕ → ℕ → ℕ → Type 0
 Within a n x = (a ≤ x) × (x < a + n)
 
 -- one of them is the first, or one of the rest
-first-or-rest : (a n x : ℕ) → Within a (suc n) x → (x ≡ a) ⊎ Within (suc a) n x
+pub first-or-rest : (a n x : ℕ) → Within a (suc n) x → (x ≡ a) ⊎ Within (suc a) n x
 first-or-rest a n x h = go (ℕ-discrete x a)
   where
     go : Dec (x ≡ a) → (x ≡ a) ⊎ Within (suc a) n x
     go (yes e) = inl e
     go (no ne) = inr (omega (arith, add-suc a n, suc-add a n))
 
-first-within : (a n : ℕ) → Within a (suc n) a
+pub first-within : (a n : ℕ) → Within a (suc n) a
 first-within a n = omega (arith, add-suc a n)
 
-rest-within : (a n x : ℕ) → Within (suc a) n x → Within a (suc n) x
+pub rest-within : (a n x : ℕ) → Within (suc a) n x → Within a (suc n) x
 rest-within a n x h = omega (arith, add-suc a n, suc-add a n)
 
 -- ---- any: f holds of one at least

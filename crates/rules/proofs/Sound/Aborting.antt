@@ -1,6 +1,6 @@
 -- An abort's table: the live actions at or below the one aborted become aborted and nothing else changes, so the table stays
 -- sound; and the answer counts them. Assumes nothing.
-use Prim.Native.Nat.{ℕ, _≤_, _<_}
+use Prim.Native.Nat.{ℕ, _≤_, _<_, _+_}
 use native.Mathlib.Nat.{le-of-eq}
 use native.Mathlib.Omega.{arith}
 use mathlib.Core.Path.{_≡_, refl, sym, ap, ap₂, _∙_}
@@ -13,7 +13,7 @@ use lib.ListN.{length}
 use Rattle.rules.specs.declared.Answer.the-variants.{Aborted}
 use Rattle.rules.specs.Range.{count}
 use Rattle.rules.specs.Kind.{IsKind}
-use Rattle.rules.specs.Table.{hasEnd, width, live, committed, aborted, word, highestField, highest, counterField, counter, parentField, parentOf, stateField, stateOf, endField, readField, subTimeField, writeField, pendingField, isLive, isCommitted, actions, newestField}
+use Rattle.rules.specs.Table.{hasEnd, width, live, committed, aborted, word, highestField, highest, counterField, counter, parentField, parentOf, stateField, stateOf, endField, readField, subTimeField, writeField, pendingField, isLive, isCommitted, actions, newestField, ruleField}
 use Rattle.rules.specs.Walk.{isAtOrBelow, isAbortedBy}
 use Rattle.rules.specs.Queue.{queueLengthField, isQueued}
 use Rattle.rules.specs.Sound.{hasState, IsGiven, Sound}
@@ -137,6 +137,7 @@ module _ (w : List ℕ) (n : ℕ) where
         record {
           long = abort-length ∙ s .long;
           sameHighest = highest-kept;
+          sameRule = ap (λ x. x + 1) (abort-keeps-field 0 ruleField (omega arith) (λ z. omega arith));
           rising = λ h known. le-of-eq (sym (counter-kept h known));
           bounded = bounds-stay s (abortTable w n) counter-kept (λ h known. abort-line h known .sameLength);
           states = state-valid;

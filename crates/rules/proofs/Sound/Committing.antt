@@ -1,5 +1,5 @@
 -- A commit's table, field by field. Assumes nothing.
-use Prim.Native.Nat.{ℕ, _-_, _≤_, _<_, min}
+use Prim.Native.Nat.{ℕ, _-_, _≤_, _<_, min, _+_}
 use native.Mathlib.Omega.{arith}
 use native.Mathlib.Decide.{ℕ-discrete}
 use mathlib.Core.Path.{_≡_, refl, sym, ap, _∙_}
@@ -12,7 +12,7 @@ use lib.ListN.{length}
 use Rattle.rules.specs.Card.{accountCount, accounts, firstCharge, chargeCount, chargeAccounts, IsCharge}
 use Rattle.rules.specs.Amount.{amountWord}
 use Rattle.rules.specs.Kind.{IsKind, topKind, kindUnder}
-use Rattle.rules.specs.Table.{width, tableLength, mostActions, committed, word, highestField, highest, counterField, counter, parentField, parentOf, kindOf, stateField, stateOf, withState, endField, endTime, withEndTime, readFields, readField, readEntry, hasRead, subTimeFields, subTimeField, subTime, readTime, writeField, writeEntry, entered, hasWritten, hasWrites, pendingField, pendingWord, ownAddsField, ownAddsWord, keptField, keptWord, keptAfter, newestFields, newestField, newest}
+use Rattle.rules.specs.Table.{width, tableLength, mostActions, committed, word, highestField, highest, counterField, counter, parentField, parentOf, kindOf, stateField, stateOf, withState, endField, endTime, withEndTime, readFields, readField, readEntry, hasRead, subTimeFields, subTimeField, subTime, readTime, writeField, writeEntry, entered, hasWritten, hasWrites, pendingField, pendingWord, ownAddsField, ownAddsWord, keptField, keptWord, keptAfter, newestFields, newestField, newest, ruleField, ruleOf}
 use Rattle.rules.specs.Queue.{queueLengthField}
 use Rattle.rules.specs.Ledger.{Ledger}
 use Rattle.rules.specs.Commit.{copiedDown, commitTime, commitCounter, endTable, keepTable, newestAfter, noteTable, passesRead, joinedWord, joinedRead, joinedTime, joinTable, committedUnder}
@@ -267,7 +267,7 @@ module _ (s : Ledger) (n p : ℕ) (one : 1 ≤ n) where
   pub commit-own-adds : (m k : ℕ) → IsCharge k → ownAddsWord (committedUnder s n p .table) m k ≡ ownAddsWord (s .table) m k
   commit-own-adds m k charge = commit-behind m (ownAddsField k) (omega arith) (omega arith)
 
-  -- .. and both queues stay
+  -- .. and the rule and both queues stay
   head-kept :
       (g : ℕ) → readFields ≤ g → g < keptField firstCharge → IsNoSum g →
       word (committedUnder s n p .table) 0 g ≡ word (s .table) 0 g
@@ -279,6 +279,9 @@ module _ (s : Ledger) (n p : ℕ) (one : 1 ≤ n) where
           rw (eq-eqb p 0 top)
           (note-before kept n p 0 g (omega arith) ∙ keep-before ended n p 0 g h ∙ ended-field 0 g (omega arith) (λ z. omega arith) (λ z. omega arith) (inr off))
       go (no sub) = commit-keeps-others 0 (λ z. sub (sym z)) g high (omega arith)
+
+  pub commit-rule : ruleOf (committedUnder s n p .table) ≡ ruleOf (s .table)
+  commit-rule = ap (λ x. x + 1) (head-kept ruleField (omega arith) (omega arith) (inl (omega arith)))
 
   pub commit-line : (h : ℕ) → IsKind h → SameLine (s .table) (committedUnder s n p .table) h
   commit-line h known =

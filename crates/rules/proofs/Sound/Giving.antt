@@ -1,9 +1,9 @@
 -- A number given to a new action: what stands in the table then. The action's row is filled whole, the children of the number's
 -- earlier holder are nobody's, and no other word changes but the highest number. Assumes nothing.
-use Prim.Native.Nat.{ℕ, _≤_, _<_, max}
+use Prim.Native.Nat.{ℕ, _≤_, _<_, max, _+_}
 use native.Mathlib.Omega.{arith}
 use native.Mathlib.Decide.{ℕ-discrete}
-use mathlib.Core.Path.{_≡_, _∙_}
+use mathlib.Core.Path.{_≡_, _∙_, ap}
 use mathlib.Core.Logic.{inl, inr, _≢_}
 use mathlib.Core.Bool.{cond}
 use mathlib.Core.List.{List}
@@ -11,7 +11,7 @@ use borrow.Author.Tests.{eqb-true}
 use lib.ListN.{length}
 use Rattle.rules.specs.Card.{accountCount, IsCharge}
 use Rattle.rules.specs.Kind.{IsKind}
-use Rattle.rules.specs.Table.{entryFields, subTimeFields, subTime, width, tableLength, mostActions, live, word, highestField, highest, withHighest, counterField, counter, parentField, parentOf, withParent, stateField, stateOf, withState, endField, endTime, withEndTime, readEntry, writeEntry, pendingWord, ownAddsField, ownAddsWord, withoutAdds, keptField, keptWord, withoutKept, newestField, newest, withoutNewest, actions, isChildOf}
+use Rattle.rules.specs.Table.{entryFields, subTimeFields, subTime, width, tableLength, mostActions, live, word, highestField, highest, withHighest, counterField, counter, parentField, parentOf, withParent, stateField, stateOf, withState, endField, endTime, withEndTime, readEntry, writeEntry, pendingWord, ownAddsField, ownAddsWord, withoutAdds, keptField, keptWord, withoutKept, newestField, newest, withoutNewest, actions, isChildOf, ruleField, ruleOf}
 use Rattle.rules.specs.Queue.{queueLengthField}
 use Rattle.rules.specs.Sound.{IsGiven}
 use Rattle.rules.specs.Step.{orphaned, giveTable}
@@ -105,6 +105,9 @@ module _ (w : List ℕ) (n p : ℕ) where
 
   pub give-head : (g : ℕ) → 1 ≤ n → g < width → g ≢ highestField → word (giveTable w n p) 0 g ≡ word w 0 g
   give-head g one h ne = head-from g one h ∙ word-other-field freed 0 highestField g _ ne ∙ freed-head g h
+
+  pub give-rule : 1 ≤ n → ruleOf (giveTable w n p) ≡ ruleOf w
+  give-rule one = ap (λ x. x + 1) (give-head ruleField one (omega arith) (λ z. omega arith))
 
   pub give-counter : (h : ℕ) → 1 ≤ n → IsKind h → counter (giveTable w n p) h ≡ counter w h
   give-counter h one known = give-head (counterField h) one (omega arith) (λ z. omega arith)

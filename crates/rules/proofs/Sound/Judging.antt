@@ -11,7 +11,7 @@ use borrow.Author.Tests.{eqb-true, leb-true, leb-false, eq-eqb}
 use lib.Dec.{eqb, leb}
 use Rattle.rules.specs.Card.{accountCount, IsCharge, accounts}
 use Rattle.rules.specs.Kind.{IsKind}
-use Rattle.rules.specs.Table.{hasEnd, width, mostActions, live, committed, aborted, word, highestField, highest, counterField, counter, lastTime, parentField, parentOf, kindOf, stateField, stateOf, withState, endField, endTime, readField, readEntry, hasRead, subTimeField, readTime, writeField, writeEntry, entered, hasWritten, hasWrites, pendingField, pendingWord, isLive, isCommitted, isRecordOf, newest, newestField}
+use Rattle.rules.specs.Table.{hasEnd, width, mostActions, live, committed, aborted, word, highestField, highest, counterField, counter, lastTime, parentField, parentOf, kindOf, stateField, stateOf, withState, endField, endTime, readField, readEntry, hasRead, subTimeField, readTime, writeField, writeEntry, entered, hasWritten, hasWrites, pendingField, pendingWord, isLive, isCommitted, isRecordOf, newest, newestField, ruleField}
 use Rattle.rules.specs.Queue.{queueLengthField, queueLength, isQueued}
 use Rattle.rules.specs.Sound.{hasState, IsGiven, Sound}
 use Rattle.rules.specs.Ledger.{Ledger}
@@ -24,7 +24,7 @@ use Rattle.rules.proofs.Laws.Kinds.{unqueued-in}
 use Rattle.rules.proofs.Laws.Queue.{SameLine}
 use Rattle.rules.proofs.Copies.Turns.{addedWord}
 use Rattle.rules.proofs.Sound.TableChanges.{ReadsFrom, Bounded, bounds-stay, TableChange, Ended, SumStays, sum-stays, line-stays, writes-agree, live-uncommitted, same-read, RowKept, calm-newest, ReadFrom, NewestStays, action-width, child's, NewestNow, own}
-use Rattle.rules.proofs.Sound.Committing.{commit-length, commit-highest, commit-parent, commit-keeps-row, commit-keeps-sets, commit-keeps-others, commit-line, commit-counter, commit-other-counter, commit-state, commit-end, commit-read, commit-read-time, commit-write, commit-pending, commit-noted, commit-unnoted}
+use Rattle.rules.proofs.Sound.Committing.{commit-length, commit-highest, commit-parent, commit-keeps-row, commit-keeps-sets, commit-keeps-others, commit-line, commit-counter, commit-other-counter, commit-state, commit-end, commit-read, commit-read-time, commit-write, commit-pending, commit-noted, commit-unnoted, commit-rule}
 use Rattle.rules.proofs.Clash.Records.{record-parent}
 use Rattle.rules.proofs.Sound.NewestKept.{record-committed}
 
@@ -127,6 +127,7 @@ module _ (w : List ℕ) (s : Sound w) (n : ℕ) (j : Committable w n) where
       record {
         long = withWord-length w n stateField aborted ∙ s .long;
         sameHighest = fail-head highestField (omega arith);
+        sameRule = ap (λ x. x + 1) (fail-head ruleField (omega arith));
         rising = λ h known. le-of-eq (sym (fail-counter h known));
         bounded = bounds-stay s failed fail-counter (λ h known. fail-line h known .sameLength);
         states = has-state w failed n j (inr fail-state) fail-others s;
@@ -398,6 +399,7 @@ module _ (ledger : Ledger) (s : Sound (ledger .table)) (n : ℕ) (j : Committabl
       record {
         long = commit-length ledger n parent (j .own .0) ∙ s .long;
         sameHighest = commit-highest ledger n parent (j .own .0);
+        sameRule = commit-rule ledger n parent (j .own .0);
         rising = pass-rising;
         bounded = pass-bounded;
         states = has-state w passed n j (inl pass-state) pass-others s;

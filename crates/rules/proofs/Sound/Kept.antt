@@ -4,9 +4,10 @@ use Prim.Native.Nat.{ℕ}
 use mathlib.Core.Path.{_≡_, refl, _∙_}
 use mathlib.Core.Bool.{Bool, true, false}
 use mathlib.Core.List.{List, []}
+use lib.Dec.{eqb}
 use Rattle.rules.specs.Range.{upFrom, all}
 use Rattle.rules.specs.Card.{IsCharge, accounts}
-use Rattle.rules.specs.Table.{word, newTable, kindOf, parentOf, actions, parents}
+use Rattle.rules.specs.Table.{word, newTable, kindOf, parentOf, actions, parents, withWord, withRule, forwardRule, newTableUnder}
 use Rattle.rules.specs.Kind.{kinds, kindUnder}
 use Rattle.rules.specs.Free.{nextNumber}
 use Rattle.rules.specs.Queue.{queue, isQueued, withoutBelow}
@@ -16,6 +17,7 @@ use Rattle.rules.specs.declared.Found.{Found}
 use Rattle.rules.specs.declared.Found.the-variants.{Nothing, At}
 use Rattle.rules.specs.Ledger.{Ledger}
 use Rattle.rules.specs.Step.{Outcome, start, read, write, add, judged, enterTable, enter, isJudgedFailed, revealed, judgeLeft, judge, dropped, abortLeft, abort, step}
+use Rattle.rules.proofs.Laws.Tests.{cond-holds}
 use Rattle.rules.proofs.Laws.Kinds.{kind-known}
 use Rattle.rules.proofs.Laws.Freeing.{next-givable}
 use Rattle.rules.proofs.Laws.Permitted.{Startable, Touchable, Committable, Judgeable, step-by-kind}
@@ -32,9 +34,10 @@ use Rattle.rules.proofs.Sound.QueueChanges.{tail-change, ready-change, 
 use Rattle.rules.proofs.Sound.TakingOut.{out-sound, out-reach, out-spared}
 use Rattle.rules.proofs.Sound.Leaving.{leave-keeps-sound, both-keep-sound}
 
-pub new-sound : Sound newTable
-unfolding sound newTable word actions parents upFrom all accounts kinds kindUnder isBounded isSoundQueue areDistinct queueNumbers queue isNewestInTime areNewestTrue
-new-sound = facts newTable refl
+-- a new table, whichever rule was asked
+pub new-sound : (r : ℕ) → Sound (newTableUnder r)
+unfolding newTableUnder sound newTable word withWord actions parents upFrom all accounts kinds kindUnder isBounded isSoundQueue areDistinct queueNumbers queue isNewestInTime areNewestTrue
+new-sound r = cond-holds Sound (eqb r forwardRule) (λ _. facts (withRule newTable forwardRule) refl) (λ _. facts newTable refl)
 
 -- ---- event by event, where it isn't refused
 
@@ -111,4 +114,4 @@ step-keeps-sound s e was =
     step-by-kind s e Sounds was
     (start-sound s was n) (λ p _. read-sound s was n (e .account) p) (λ p _ _. write-sound s was n (e .account) (e .card) p)
     (λ j _ f _ _. judged-sound s was n j f) (λ p _ charge _. add-sound s was n (e .account) (e .card) p charge)
-    (enter-sound s was n) (judge-sound s was n) (abort-sound s was n)
+    (λ free _. enter-sound s was n free) (judge-sound s was n) (abort-sound s was n)

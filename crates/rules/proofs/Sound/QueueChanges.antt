@@ -12,7 +12,7 @@ use lib.ListN.{length, length-map, length-append}
 use borrow.Author.Tests.{eqb-true, not-true}
 use Rattle.rules.specs.Range.{any, filter}
 use Rattle.rules.specs.Kind.{IsKind, kindUnder}
-use Rattle.rules.specs.Table.{IsActionField, mostActions, word, highestField, highest, counterField, counter, lastTime, parentField, parentOf, kindOf, stateField, endField, readField, subTimeField, writeField, pendingField, isLive, hasEnd, newestField}
+use Rattle.rules.specs.Table.{IsActionField, mostActions, word, highestField, highest, counterField, counter, lastTime, parentField, parentOf, kindOf, stateField, endField, readField, subTimeField, writeField, pendingField, isLive, hasEnd, newestField, ruleField}
 use Rattle.rules.specs.Walk.{isAtOrBelow, isAbortedBy}
 use Rattle.rules.specs.Queue.{numberField, readyField, queueLengthField, queueLength, Entry, isOf, queue, isQueued, isWaiting, withQueue, newEntry, withTail, readied, withReady, keepsPlace, withoutBelow}
 use Rattle.rules.specs.Sound.{areDistinct, queueNumbers, IsGiven, MayWait, SoundQueue, Sound}
@@ -121,7 +121,7 @@ module _ (w : List ℕ) (s : Sound w) (h : ℕ) (known : IsKind h) (es : List En
   pub queue-change : counter w h + length es ≤ lastTime → SoundQueue given h → (now : ℕ) → TableChange w given now
   queue-change room line now =
       quiet-change w given now s (withQueue-length h known w es) highest-kept
-      counter-kept (bounds-kept room) parent-kept
+      (ap (λ x. x + 1) (given-keeps 0 ruleField (inl (omega arith)) (inr (λ z. omega arith)))) counter-kept (bounds-kept room) parent-kept
       (λ m. given-keeps m stateField (inl (omega arith)) (inr (λ z. omega arith)))
       reads-kept
       (λ m h e. inl (sym (end-kept m h) ∙ e, given-keeps m endField (inl (omega arith)) (inl (h .0))))

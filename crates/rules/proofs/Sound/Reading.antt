@@ -11,7 +11,7 @@ use lib.Dec.{eqb}
 use lib.ListN.{length}
 use Rattle.rules.specs.Card.{accountCount}
 use Rattle.rules.specs.Kind.{IsKind, topKind, subKind}
-use Rattle.rules.specs.Table.{hasEnd, width, committed, word, highestField, counterField, counter, parentField, stateField, stateOf, endField, readField, readEntry, withRead, subTimeField, subTime, writeField, pendingField, isLive, isCommitted, newestField}
+use Rattle.rules.specs.Table.{hasEnd, width, committed, word, highestField, counterField, counter, parentField, stateField, stateOf, endField, readField, readEntry, withRead, subTimeField, subTime, writeField, pendingField, isLive, isCommitted, newestField, ruleField}
 use Rattle.rules.specs.Queue.{queueLengthField}
 use Rattle.rules.specs.Sound.{IsGiven, Sound}
 use Rattle.rules.specs.Step.{leavesReadSet, withReadNow, readTable}
@@ -140,6 +140,7 @@ module _ (w : List ℕ) (n k : ℕ) (account : k < accountCount) where
     read-change own alive =
         quiet-change w (readTable w n k) n s read-length
         (read-keeps-field 0 highestField (omega arith) (λ z. omega arith) (λ z. omega arith))
+        (ap (λ x. x + 1) (read-keeps-row 0 ruleField (omega arith) (λ z. omega (arith, own))))
         counter-kept (bounds-stay s (readTable w n k) counter-kept (λ h known. read-line own h known .sameLength))
         (λ m. read-keeps-field m parentField (omega arith) (λ z. omega arith) (λ z. omega arith))
         state-kept reads-from

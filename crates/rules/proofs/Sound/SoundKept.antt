@@ -88,6 +88,7 @@ module _ (w v : List ℕ) (now : ℕ) (s : Sound w) (c : TableChange w v now) wh
       record {
         long = c .long;
         few = rw (c .sameHighest) (s .few);
+        ruled = rw (c .sameRule) (s .ruled);
         states = λ m h. c .states m (before m h);
         bounded = c .bounded;
         known = λ m h. rw (c .parents m (before m h), c .sameHighest) (s .known m (before m h));

@@ -13,7 +13,7 @@ use Rattle.rules.specs.Card.{accountCount, accounts, firstCharge, charge
 use Rattle.rules.specs.Kind.{IsKind, kinds}
 use Rattle.rules.specs.Table.{hasEnd, tableLength, mostActions, highest, counter, lastTime, parentOf, kindOf, endTime, hasRead, readTime, writeEntry, hasWritten, pendingWord, isLive, actions, parents}
 use Rattle.rules.specs.Queue.{queueLength, queue, isQueued}
-use Rattle.rules.specs.Sound.{isBounded, hasState, hasParentAlive, hasTimesIn, hasReadInTime, hasEndInTime, sharesEndTime, hasEndAlone, hasPendingWritten, isSoundAction, mayWait, queueNumbers, isSoundQueue, isNewestInTime, areNewestTrue, sound, IsGiven, MayWait, SoundQueue, Sound, hasParentKnown, hasWayUp, endsUnderAnother}
+use Rattle.rules.specs.Sound.{isBounded, hasState, hasParentAlive, hasTimesIn, hasReadInTime, hasEndInTime, sharesEndTime, hasEndAlone, hasPendingWritten, isSoundAction, mayWait, queueNumbers, isSoundQueue, isNewestInTime, areNewestTrue, sound, IsGiven, MayWait, SoundQueue, Sound, hasParentKnown, hasWayUp, endsUnderAnother, hasRule}
 use Rattle.rules.specs.Walk.{climbs}
 use Rattle.rules.proofs.Laws.Tests.{and-left, and-right, and-both, or-cases, or-inl, or-inr, test, implied, implies, not-both, false-of-not-true}
 use Rattle.rules.proofs.Laws.Ranges.{Within, all-at, all-of}
@@ -261,22 +261,25 @@ module _ (w : List ℕ) where
   facts t =
       let long = eqb (length w) tableLength in
       let few = leb (highest w) mostActions in
+      let ruled = hasRule w in
       let bounded = all (isBounded w) kinds in
       let fold = all (isSoundAction w) (actions w) in
       let waiting = all (isSoundQueue w) kinds in
       let timely = all (isNewestInTime w) (parents w) in
       let true-told = all (areNewestTrue w) (parents w) in
-      let t6 = and-left (long && few && bounded && fold && waiting && timely) true-told t in
-      let t5 = and-left (long && few && bounded && fold && waiting) timely t6 in
-      let t4 = and-left (long && few && bounded && fold) waiting t5 in
-      let t3 = and-left (long && few && bounded) fold t4 in
-      let t2 = and-left (long && few) bounded t3 in
+      let t7 = and-left (long && few && ruled && bounded && fold && waiting && timely) true-told t in
+      let t6 = and-left (long && few && ruled && bounded && fold && waiting) timely t7 in
+      let t5 = and-left (long && few && ruled && bounded && fold) waiting t6 in
+      let t4 = and-left (long && few && ruled && bounded) fold t5 in
+      let t3 = and-left (long && few && ruled) bounded t4 in
+      let t2 = and-left (long && few) ruled t3 in
       let of : (n : ℕ) → IsGiven w n → SoundAction w n =
-      λ n h. action-facts w n (all-given w (isSoundAction w) (and-right (long && few && bounded) fold t4) n h) in
+      λ n h. action-facts w n (all-given w (isSoundAction w) (and-right (long && few && ruled && bounded) fold t5) n h) in
       record {
         long = eqb-true _ _ (and-left long few t2);
         few = leb-true _ _ (and-right long few t2);
-        bounded = λ h known. bounded-fact w h (all-kinds (isBounded w) (and-right (long && few) bounded t3) h known);
+        ruled = and-right (long && few) ruled t3;
+        bounded = λ h known. bounded-fact w h (all-kinds (isBounded w) (and-right (long && few && ruled) bounded t4) h known);
         states = λ n h. of n h .state;
         known = λ n h. leb-true _ _ (of n h .known);
         climb = λ n h. way-up-fact w n (of n h .up);
@@ -295,15 +298,15 @@ module _ (w : List ℕ) where
         lines =
             λ h known.
             queue-facts w h
-            (all-kinds (isSoundQueue w) (and-right (long && few && bounded && fold) waiting t5) h known);
+            (all-kinds (isSoundQueue w) (and-right (long && few && ruled && bounded && fold) waiting t6) h known);
         newestInTime =
             λ p k known.
             in-time-fact w p
-            (all-parents w (isNewestInTime w) (and-right (long && few && bounded && fold && waiting) timely t6) p known) k;
+            (all-parents w (isNewestInTime w) (and-right (long && few && ruled && bounded && fold && waiting) timely t7) p known) k;
         newestTrue =
             λ p m k held lives below account has.
             newest-true-fact w p
-            (all-parents w (areNewestTrue w) (and-right (long && few && bounded && fold && waiting && timely) true-told t) p (held .0))
+            (all-parents w (areNewestTrue w) (and-right (long && few && ruled && bounded && fold && waiting && timely) true-told t) p (held .0))
             held m (lives .0) (lives .1) below k account has;
       }
 
@@ -336,7 +339,8 @@ module _ (w : List ℕ) where
       (and-both
       (and-both
       (and-both
-      (and-both (and-both (eq-eqb _ _ (s .long)) (le-leb _ _ (s .few)))
+      (and-both
+      (and-both (and-both (eq-eqb _ _ (s .long)) (le-leb _ _ (s .few))) (s .ruled))
       (kinds-all (isBounded w) (λ h known. bounded-test w h (s .bounded h known))))
       (given-all w _ (λ n h. action-tested w n (tested-action s n h))))
       (kinds-all (isSoundQueue w) (λ h known. queue-tested w h (s .lines h known))))

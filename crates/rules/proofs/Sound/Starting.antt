@@ -27,7 +27,7 @@ use Rattle.rules.proofs.Sound.TableChanges.{bounds-stay}
 use Rattle.rules.proofs.Sound.Depths.{one-move-left}
 use Rattle.rules.proofs.Sound.Started.{start-highest, old-or-new, by-age, old-field, old-state, old-end, live-row, old-parent, old-parent-kept, old-kind, new-no-end, new-parent}
 use Rattle.rules.proofs.Sound.StartRecords.{start-newest-in-time, start-newest-true}
-use Rattle.rules.proofs.Sound.Giving.{give-length, give-counter, give-line, give-highest, give-state, give-read, give-pending}
+use Rattle.rules.proofs.Sound.Giving.{give-length, give-counter, give-line, give-highest, give-state, give-read, give-pending, give-rule}
 
 module _
     (w : List ℕ) (n p : ℕ) (s : Sound w) (g : Givable w n) (known : p ≤ highest w) (alive : 1 ≤ p → isLive w p ≡ true)
@@ -131,6 +131,7 @@ module _
       record {
         long = give-length w n p ∙ s .long;
         few = omega (arith, give-highest w n p (s .long) (g .first) (g .few), s .few, g .few);
+        ruled = rw (give-rule w n p (g .first)) (s .ruled);
         states =
             by-age w n p s g _
             (λ m old. rw (old-state w n p s g m old) (s .states m (old .0)))

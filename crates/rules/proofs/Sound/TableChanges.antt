@@ -13,7 +13,7 @@ use lib.Dec.{eqb}
 use lib.ListN.{length}
 use Rattle.rules.specs.Card.{accountCount, accounts, IsCharge}
 use Rattle.rules.specs.Kind.{IsKind, kindUnder}
-use Rattle.rules.specs.Table.{hasEnd, IsActionField, tableLength, entryFields, width, live, committed, word, writeFields, highestField, counterField, parentField, stateField, endField, readField, readEntry, subTimeField, subTime, writeField, writeEntry, entered, hasWritten, hasWrites, pendingField, pendingWord, newestField, newest, highest, counter, lastTime, parentOf, kindOf, stateOf, endTime, hasRead, readTime, isLive, isCommitted, actions, isChildOf, isLiveChildOf, hasLiveChild, isRecordOf}
+use Rattle.rules.specs.Table.{hasEnd, IsActionField, tableLength, entryFields, width, live, committed, word, writeFields, highestField, counterField, parentField, stateField, endField, readField, readEntry, subTimeField, subTime, writeField, writeEntry, entered, hasWritten, hasWrites, pendingField, pendingWord, newestField, newest, highest, counter, lastTime, parentOf, kindOf, stateOf, endTime, hasRead, readTime, isLive, isCommitted, actions, isChildOf, isLiveChildOf, hasLiveChild, isRecordOf, ruleField, ruleOf}
 use Rattle.rules.specs.Queue.{queueLengthField, queueLength, isQueued}
 use Rattle.rules.specs.Sound.{hasState, queueNumbers, IsGiven, IsLiveAction, SoundQueue, Sound}
 use Rattle.rules.proofs.Laws.Tests.{and-left, and-right, and-both, not-both, false-of-not-true}
@@ -109,6 +109,7 @@ bounds-stay s v counters lengths h known = rw (counters h known, lengths h known
 pub record TableChange (w v : List ℕ) (now : ℕ) : Type 0 where
   pub long : length v ≡ tableLength
   pub sameHighest : highest v ≡ highest w
+  pub sameRule : ruleOf v ≡ ruleOf w
   pub rising : (h : ℕ) → IsKind h → counter w h ≤ counter v h
   pub bounded : Bounded v
   pub states : (m : ℕ) → IsGiven w m → hasState v m ≡ true
@@ -192,7 +193,7 @@ quiet-line w v s h known same starts parents states =
 
 -- A change that leaves the head, the parents and the states as they were.
 pub quiet-change :
-    (w v : List ℕ) (now : ℕ) → Sound w → length v ≡ length w → highest v ≡ highest w →
+    (w v : List ℕ) (now : ℕ) → Sound w → length v ≡ length w → highest v ≡ highest w → ruleOf v ≡ ruleOf w →
     ((h : ℕ) → IsKind h → counter v h ≡ counter w h) → Bounded v →
     ((m : ℕ) → parentOf v m ≡ parentOf w m) → ((m : ℕ) → stateOf v m ≡ stateOf w m) → ReadsFrom w v →
     ((m : ℕ) → IsGiven w m → hasEnd v m ≡ true → Ended w v now m) →
@@ -200,10 +201,11 @@ pub quiet-change :
     ((p k : ℕ) → k < accountCount → newest v p k ≡ newest w p k) →
     ((m k : ℕ) → IsGiven w m → IsCharge k → SumStays w v m k) → ((h : ℕ) → IsKind h → SoundQueue v h) →
     TableChange w v now
-quiet-change w v now s len start counters bounded parents states reads ends finals newests pendings lines =
+quiet-change w v now s len start rule counters bounded parents states reads ends finals newests pendings lines =
     record {
       long = len ∙ s .long;
       sameHighest = start;
+      sameRule = rule;
       rising = λ h known. le-of-eq (sym (counters h known));
       bounded = bounded;
       states = λ m h. rw (states m) (s .states m h);
@@ -270,7 +272,7 @@ module _
   pub entering-change : TableChange w v n
   entering-change =
       quiet-change w v n s len
-      (fields 0 highestField (omega arith)) counter-kept (bounds-stay s v counter-kept length-kept)
+      (fields 0 highestField (omega arith)) (ap (λ x. x + 1) (fields 0 ruleField (omega arith))) counter-kept (bounds-stay s v counter-kept length-kept)
       (λ m. fields m parentField (omega arith)) state-kept reads-kept
       (λ m h. end-kept m) (λ m h. finals-kept m)
       (λ p j account. behind p (newestField j) (omega arith) (omega arith))

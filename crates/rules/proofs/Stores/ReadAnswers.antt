@@ -17,7 +17,7 @@ use Rattle.rules.specs.Ledger.{Ledger}
 use Rattle.rules.specs.Cause.{causeOf}
 use Rattle.rules.specs.Nearest.{version, readSum, IsNearest}
 use Rattle.rules.specs.Look.{lookCause, lookAt, look, lookedCard}
-use Rattle.rules.specs.Clash.{firstClash}
+use Rattle.rules.specs.Verdict.{commitVerdict}
 use Rattle.rules.specs.Serial.Told.{Told, itBegan, itRead, itWrote, itAdded, itCommitted, itLetLeave, itDidNothing, told}
 use Rattle.rules.specs.Step.{Outcome, start, readAnswer, read, write, judged, commit, add, enter, isJudgedFailed, judgeLeft, judgeAnswer, judge, abort, step, leaversAt}
 use Rattle.rules.proofs.Laws.Tests.{not-both}
@@ -72,7 +72,7 @@ module _ (s : Ledger) (e : Event) where
       (λ _ tells. absurd (false≢true tells))
       (λ reads _. (a, reads, refl))
       (λ _ tells. absurd (false≢true tells))
-      (λ _. committed-other (firstClash (s .table) (e .number)))
+      (λ _. committed-other (commitVerdict (s .table) (e .number)))
       (λ _ tells. absurd (false≢true tells))
       (λ _ tells. absurd (false≢true tells))
       (λ _. judge-other)

@@ -16,7 +16,7 @@ use Rattle.rules.specs.Range.{any}
 use Rattle.rules.specs.Card.{isCharge, cardLength, shadowPlace}
 use Rattle.rules.specs.Sound.{Sound}
 use Rattle.rules.specs.Event.{Event, commitCode, judgeCode, abortCode, isRead, isWrite, isCommit, isAbort, isAdd, isJudge}
-use Rattle.rules.specs.Clash.{firstClash}
+use Rattle.rules.specs.Verdict.{commitVerdict}
 use Rattle.rules.specs.Ledger.{Ledger}
 use Rattle.rules.specs.Step.{start, readAnswer, read, write, add, judged, commit, enter, isJudgedFailed, judgeLeft, judgeAnswer, judge, abortLeft, abort, act, step}
 use Rattle.rules.specs.Run.{run}
@@ -62,7 +62,7 @@ act-not-refused s e a =
     (λ _. refl)
     (λ _. cond-holds (λ a. isRefused a ≡ false) (isCharge (e .account)) (λ _. refl) (λ _. refl))
     (λ _. refl)
-    (λ _. commit-not (firstClash (s .table) (e .number)))
+    (λ _. commit-not (commitVerdict (s .table) (e .number)))
     (λ _. refl)
     (λ _. refl)
     (λ _. judged-not-refused (isJudgedFailed (s .table) (e .number)) _)
@@ -132,7 +132,7 @@ module _ (s : Ledger) (e : Event) where
           }
 
     commit-touches :
-        isCommit e ≡ true → (f : Found) → firstClash (s .table) (e .number) ≡ f → Touched (judged s (e .number) f .after) []
+        isCommit e ≡ true → (f : Found) → commitVerdict (s .table) (e .number) ≡ f → Touched (judged s (e .number) f .after) []
     unfolding judged
     commit-touches is Nothing clear =
         by-commits [] (e .number ∷ []) (rw (is, clear))
@@ -158,7 +158,7 @@ module _ (s : Ledger) (e : Event) where
       (λ _. stores-stay s _)
       (λ _. stores-stay s _)
       (write-touches a)
-      (λ is. commit-touches a is (firstClash (s .table) (e .number)) refl)
+      (λ is. commit-touches a is (commitVerdict (s .table) (e .number)) refl)
       (λ _. stores-stay s _)
       (λ _. stores-stay s _)
       (judge-touches a)

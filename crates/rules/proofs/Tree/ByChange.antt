@@ -132,6 +132,6 @@ module _
       (λ p _ plain. writes s proper n was j (e .card) p plain)
       (λ c _ f _ fits. judges s proper n was c f fits)
       (λ p _ to fits. adds _ (add-quiet (proper .sound) n k charge j (e .card) p to fits))
-      (λ free. enters s proper n was free)
+      (λ free _. enters s proper n was free)
       (λ j. reveals s proper n was j)
       (aborts s proper n was)

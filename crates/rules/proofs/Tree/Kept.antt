@@ -1,13 +1,12 @@
 -- A new table carries the sums, and so does what every list of events leaves. Assumes nothing.
-use Prim.Native.Nat.{ℕ, _+_, _*_}
+use Prim.Native.Nat.{ℕ}
 use native.Mathlib.Omega.{arith}
 use mathlib.Core.Path.{_≡_, refl, sym, ap, _∙_}
 use mathlib.Core.List.{List, [], _∷_}
 use lib.IntN.{pos, _+ℤ_, +ℤ-idr}
-use lib.ListN.{getD-replicate}
 use Rattle.rules.specs.Card.{IsCharge}
 use Rattle.rules.specs.Amount.{amountOf, baseAmount}
-use Rattle.rules.specs.Table.{width, tableLength, newTable, word, keptField, keptSum}
+use Rattle.rules.specs.Table.{newTableUnder, keptField, keptSum}
 use Rattle.rules.specs.Sound.{IsGiven}
 use Rattle.rules.specs.Event.{Event}
 use Rattle.rules.specs.Ledger.{Ledger}
@@ -15,6 +14,7 @@ use Rattle.rules.specs.Step.{step}
 use Rattle.rules.specs.Run.{run}
 use Rattle.rules.specs.Serial.Demand.{newOver}
 use Rattle.rules.proofs.Laws.Amounts.{amount-zero}
+use Rattle.rules.proofs.Laws.NewTables.{new-head, new-highest}
 use Rattle.rules.proofs.Demand.Proper.{Proper, step-keeps-proper}
 use Rattle.rules.proofs.Demand.Starts.{start-givable}
 use Rattle.rules.proofs.Tree.Carried.{Carried}
@@ -28,19 +28,17 @@ abbrev pub CarriedIn : ℕ → List ℕ → Ledger → Type 0
 CarriedIn k opening s = Carried k (baseAmount opening k) (s .table) (baseAmount (s .base) k)
 
 -- a new table has no action, and nothing is kept of any topaction
-new-nobody : (n : ℕ) → IsGiven newTable n → ⊥
-unfolding newTable word
-new-nobody n h = omega (arith, h)
+new-nobody : (r n : ℕ) → IsGiven (newTableUnder r) n → ⊥
+new-nobody r n h = omega (arith, h, new-highest r)
 
-new-kept : {k : ℕ} → IsCharge k → keptSum newTable 0 k ≡ pos 0
-unfolding newTable word
-new-kept {k} charge = ap amountOf (getD-replicate tableLength (width * 0 + keptField k) 0 0 (omega arith)) ∙ amount-zero
+new-kept : (r : ℕ) {k : ℕ} → IsCharge k → keptSum (newTableUnder r) 0 k ≡ pos 0
+new-kept r {k} charge = ap amountOf (new-head r (keptField k) (omega arith) (λ z. omega arith)) ∙ amount-zero
 
-pub new-carried : (base shadow : List ℕ) {k : ℕ} → IsCharge k → CarriedIn k base (newOver base shadow)
-new-carried base shadow {k} charge =
+pub new-carried : (r : ℕ) (base shadow : List ℕ) {k : ℕ} → IsCharge k → CarriedIn k base (newOver r base shadow)
+new-carried r base shadow {k} charge =
     record {
-      sums = λ n h. absurd (new-nobody n h);
-      closing = sym (ap (λ z. baseAmount base k +ℤ z) (new-kept charge) ∙ +ℤ-idr (baseAmount base k));
+      sums = λ n h. absurd (new-nobody r n h);
+      closing = sym (ap (λ z. baseAmount base k +ℤ z) (new-kept r charge) ∙ +ℤ-idr (baseAmount base k));
     }
 
 module _ {k : ℕ} (charge : IsCharge k) (opening : List ℕ) where

@@ -16,26 +16,26 @@ use Rattle.rules.proofs.Tree.Kept.{CarriedIn, new-carried, run-carried}
 use Rattle.rules.proofs.Tree.NotRefused.{not-refused}
 
 module _
-    (base shadow : List ℕ) (baseFits : length base ≡ baseLength) (shadowFits : length shadow ≡ shadowLength)
+    (r : ℕ) (base shadow : List ℕ) (baseFits : length base ≡ baseLength) (shadowFits : length shadow ≡ shadowLength)
     (es : List Event) where
   abbrev after : Ledger
-  after = ledgerAfter base shadow es
+  after = ledgerAfter r base shadow es
 
-  new : Proper (newOver base shadow)
-  new = new-proper base shadow baseFits shadowFits
+  new : Proper (newOver r base shadow)
+  new = new-proper r base shadow baseFits shadowFits
 
   carried-after : {k : ℕ} → IsCharge k → CarriedIn k base after
-  carried-after charge = run-carried charge base (newOver base shadow) es new (new-carried base shadow charge)
+  carried-after charge = run-carried charge base (newOver r base shadow) es new (new-carried r base shadow charge)
 
   totals : (n k : ℕ) → IsGiven (after .table) n → IsCharge k → pendingSum (after .table) n k ≡ totalOf (after .table) n k
   totals n k known charge = carried-after charge .sums n known
 
-  pub balanced : Balanced base shadow es
+  pub balanced : Balanced r base shadow es
   balanced =
       record {
         totals = totals;
         closes = λ k charge. carried-after charge .closing;
         reported =
-            not-refused after base (run-keeps-proper (newOver base shadow) es new) baseFits
+            not-refused after base (run-keeps-proper (newOver r base shadow) es new) baseFits
             (λ n k known charge. rw (← totals n k known charge) (amount-of-any (pendingWord (after .table) n k)));
       }

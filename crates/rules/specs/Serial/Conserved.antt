@@ -29,9 +29,9 @@ addedTo k (x ∷ xs) =
     let later = addedTo k xs in
     cond (eqb (x .account) k) (addedBy (x .effect) +ℤ later) later
 
--- What is claimed of the list S = es, given to a new table over the stores base and shadow.
-pub record Conserved (base shadow : List ℕ) (es : List Event) : Type 0 where
+-- What is claimed of the list S = es, given to a new table under rule r over the stores base and shadow.
+pub record Conserved (r : ℕ) (base shadow : List ℕ) (es : List Event) : Type 0 where
   pub conserves :
       (k : ℕ) → IsCharge k →
-      baseAmount (run (newOver base shadow) es .after .base) k
-      ≡ baseAmount base k +ℤ addedTo k (actsOfR 0 (λ n. 0) es (toldOf base shadow es))
+      baseAmount (run (newOver r base shadow) es .after .base) k
+      ≡ baseAmount base k +ℤ addedTo k (actsOfR 0 (λ n. 0) es (toldOf r base shadow es))

@@ -9,7 +9,7 @@ use lib.ListN.{length, take, getD}
 use Rattle.rules.specs.declared.Answer.{Answer}
 use Rattle.rules.specs.declared.Answer.the-variants.{Written}
 use Rattle.rules.specs.Answer.{said}
-use Rattle.rules.specs.Table.{newTable}
+use Rattle.rules.specs.Table.{newTableUnder}
 use Rattle.rules.specs.Event.{Event, startUnder}
 use Rattle.rules.specs.Look.{lookedCard}
 use Rattle.rules.specs.Ledger.{Ledger}
@@ -27,42 +27,42 @@ cardGiven s es i =
     let e = getD es i (startUnder 0) in
     lookedCard (after .table) (after .base) (after .shadow) (e .number) (e .account)
 
--- a new table over two stores, whatever they hold
-abbrev pub newOver : List ℕ → List ℕ → Ledger
-newOver base shadow = record { table = newTable; base = base; shadow = shadow }
+-- a new table that was opened under r, over two stores, whatever they hold
+abbrev pub newOver : ℕ → List ℕ → List ℕ → Ledger
+newOver r base shadow = record { table = newTableUnder r; base = base; shadow = shadow }
 
 -- the answers that S gets there
-abbrev pub answersTo : List ℕ → List ℕ → List Event → List Answer
-answersTo base shadow es = run (newOver base shadow) es .answers
+abbrev pub answersTo : ℕ → List ℕ → List ℕ → List Event → List Answer
+answersTo r base shadow es = run (newOver r base shadow) es .answers
 
 -- RULES 6.1: who commits there by leaving a queue, event by event, and what the serial run is told so
-abbrev pub leaversIn : List ℕ → List ℕ → List Event → List (List ℕ)
-leaversIn base shadow es = run (newOver base shadow) es .leavers
+abbrev pub leaversIn : ℕ → List ℕ → List ℕ → List Event → List (List ℕ)
+leaversIn r base shadow es = run (newOver r base shadow) es .leavers
 
-abbrev pub toldOf : List ℕ → List ℕ → List Event → List Told
-toldOf base shadow es = toldAll (answersTo base shadow es) (leaversIn base shadow es)
+abbrev pub toldOf : ℕ → List ℕ → List ℕ → List Event → List Told
+toldOf r base shadow es = toldAll (answersTo r base shadow es) (leaversIn r base shadow es)
 
 -- RULES 5: the sum in the answer at place i, where it has one
 abbrev pub sumGiven : List Answer → ℕ → Option ℤ
 sumGiven answers i = said (getD answers i Written) .sum
 
--- What is claimed of the list S = es, given to a new table over the stores base and shadow.
-pub record Demand3 (base shadow : List ℕ) (es : List Event) : Type 0 where
+-- What is claimed of the list S = es, given to a new table under rule r over the stores base and shadow.
+pub record Demand3 (r : ℕ) (base shadow : List ℕ) (es : List Event) : Type 0 where
   -- the serial run gives each of its reads the card that this read was given in S
   pub reads :
-      (g : Given) → List·Memᴰ g (serial es (toldOf base shadow es) base .given) →
-      g .card ≡ cardGiven (newOver base shadow) es (g .place)
+      (g : Given) → List·Memᴰ g (serial es (toldOf r base shadow es) base .given) →
+      g .card ≡ cardGiven (newOver r base shadow) es (g .place)
   -- and, on a charge account, the amount
   pub amounts :
-      (g : Given) → List·Memᴰ g (serial es (toldOf base shadow es) base .given) →
-      g .amount ≡ sumGiven (answersTo base shadow es) (g .place)
+      (g : Given) → List·Memᴰ g (serial es (toldOf r base shadow es) base .given) →
+      g .amount ≡ sumGiven (answersTo r base shadow es) (g .place)
   -- it leaves the base store that stands after S
-  pub store : serial es (toldOf base shadow es) base .base ≡ run (newOver base shadow) es .after .base
+  pub store : serial es (toldOf r base shadow es) base .base ≡ run (newOver r base shadow) es .after .base
   -- its operations hold, at each place of S, the read, write or add that took place there if that was an action's in R, and
   -- nothing otherwise
   pub exact :
       (i : ℕ) →
-      atPlace i (actsIn [] (scheduleOf (storeBlock es (toldOf base shadow es))))
-      ≡ atPlace i (actsOfR 0 (λ n. 0) es (toldOf base shadow es))
+      atPlace i (actsIn [] (scheduleOf (storeBlock es (toldOf r base shadow es))))
+      ≡ atPlace i (actsOfR 0 (λ n. 0) es (toldOf r base shadow es))
   -- the operations of every block stand in the order of S, a child's whole block at the event of its commit
-  pub order : inOrder (length es) (length es) (storeBlock es (toldOf base shadow es)) ≡ true
+  pub order : inOrder (length es) (length es) (storeBlock es (toldOf r base shadow es)) ≡ true

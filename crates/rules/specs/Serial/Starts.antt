@@ -119,23 +119,23 @@ actsOfStarts chosen i h (e ∷ es) (it ∷ its) =
     let later = actsOfStarts chosen (suc i) now es its in
     cond (chosen (now .startOf (e .number))) (actOf i e it ++ later) later
 
--- what is told of the actions of S = es, given to a new table over the stores base and shadow
-abbrev pub lineageOver : List ℕ → List ℕ → List Event → Lineage
-lineageOver base shadow es = lineageOf es (toldOf base shadow es)
+-- what is told of the actions of S = es, given to a new table under rule r over the stores base and shadow
+abbrev pub lineageOver : ℕ → List ℕ → List ℕ → List Event → Lineage
+lineageOver r base shadow es = lineageOf es (toldOf r base shadow es)
 
 -- What is claimed of these actions.
-pub record PlainR (base shadow : List ℕ) (es : List Event) : Type 0 where
+pub record PlainR (r : ℕ) (base shadow : List ℕ) (es : List Event) : Type 0 where
   -- isInR is R by the rule
-  pub rule : IsR (lineageOver base shadow es) (isInR (lineageOver base shadow es))
+  pub rule : IsR (lineageOver r base shadow es) (isInR (lineageOver r base shadow es))
   -- and any choice by the rule is this one
   pub unique :
-      (chosen : ℕ → Bool) → IsR (lineageOver base shadow es) chosen →
-      (x : ℕ) → 1 ≤ x → x ≤ lineageOver base shadow es .starts → chosen x ≡ isInR (lineageOver base shadow es) x
+      (chosen : ℕ → Bool) → IsR (lineageOver r base shadow es) chosen →
+      (x : ℕ) → 1 ≤ x → x ≤ lineageOver r base shadow es .starts → chosen x ≡ isInR (lineageOver r base shadow es) x
   -- an action's number reaches the store exactly where the action is in R
   pub reached :
-      startsReach (λ n. 0) es (toldOf base shadow es)
-      ≡ map (isInR (lineageOver base shadow es)) (upFrom 1 (lineageOver base shadow es .starts))
+      startsReach (λ n. 0) es (toldOf r base shadow es)
+      ≡ map (isInR (lineageOver r base shadow es)) (upFrom 1 (lineageOver r base shadow es .starts))
   -- the reads and writes of which demand 3 speaks are those of the actions in R
   pub acts :
-      actsOfR 0 (λ n. 0) es (toldOf base shadow es)
-      ≡ actsOfStarts (isInR (lineageOver base shadow es)) 0 noStarts es (toldOf base shadow es)
+      actsOfR 0 (λ n. 0) es (toldOf r base shadow es)
+      ≡ actsOfStarts (isInR (lineageOver r base shadow es)) 0 noStarts es (toldOf r base shadow es)
