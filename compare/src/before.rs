@@ -53,6 +53,8 @@ pub struct Before {
     /// Of the action that the event names, where it names one.
     pub kind: Option<Kind>,
     pub joins: Joins,
+    /// At a commit: whether its action has a clash, which under rule 2 nobody asks.
+    pub has_clash: bool,
     pub highest: u64,
     /// At a start: the numbers whose records are needed, and how many actions are nobody's children.
     pub needed: Vec<u64>,
@@ -65,9 +67,10 @@ impl Before {
         let kind = names_action.then(|| table.action(e.number).kind());
         let commits = names_action && e.code == EVENT_COMMIT;
         let joins = if commits { Joins::of(table, e.number) } else { Joins::default() };
+        let has_clash = commits && table.first_clash(e.number).is_some();
         let (queues, highest) = (table.queues.clone(), table.highest);
         let (needed, orphans) = if e.code == EVENT_START { of_start(table) } else { (Vec::new(), 0) };
-        Before { queues, code: e.code, number: e.number, kind, joins, highest, needed, orphans }
+        Before { queues, code: e.code, number: e.number, kind, joins, has_clash, highest, needed, orphans }
     }
 
     pub fn queue(&self, kind: Kind) -> &Queue {

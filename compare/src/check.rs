@@ -8,8 +8,8 @@ use crate::days::check_days;
 use crate::lists::check_lists;
 use std::io::{stderr, IsTerminal, Write};
 
-/// Events for each damaged table, and for each day.
-const EVENTS_TO_A_TABLE: u64 = 10;
+/// Events for each damaged table, of which about half are under each rule, and for each day.
+const EVENTS_TO_A_TABLE: u64 = 5;
 const EVENTS_TO_A_DAY: u64 = 100;
 /// From so many events on, a run that left out a point of its coverage is no good.
 const ENOUGH: u64 = 100_000;

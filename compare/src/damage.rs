@@ -176,12 +176,13 @@ fn damage_other(r: &mut Random, damage: Damage, lent: &mut Lent) {
     }
 }
 
-/// A word that says no rule, or the rule that the table is not under, which is sound whatever the queues hold.
+/// A word that says no rule and may end in the bits of one, or the rule that the table is not under: that is sound,
+/// whatever the queues hold.
 fn damage_rule(r: &mut Random, damage: Damage, words: &mut [u64]) {
     let [backward, forward] = [Rule::Backward, Rule::Forward].map(rule_word);
     words[RULE] = match damage {
-        RuleUnknown if r.one_in(4) => u64::MAX,
-        RuleUnknown => beyond(r, forward + 1),
+        RuleUnknown if r.one_in(2) => beyond(r, forward + 1),
+        RuleUnknown => *r.pick(&[u64::MAX, 1 << 8, 1 << 32, 1 << 32 | forward, 1 << 63]),
         _ if words[RULE] == backward => forward,
         _ => backward,
     };

@@ -4,7 +4,7 @@ use crate::before::Before;
 use crate::calls::{list_call, open_and_three_numbers};
 use crate::cause;
 use crate::coverage::Coverage;
-use crate::damage::{any_opening, damage, DAMAGES};
+use crate::damage::{any_opening, damage, Damage, DAMAGES};
 use crate::generate::{event, events, style};
 use crate::header::{BASE_BYTES, EVENT_ADD, EVENT_COMMIT, SHADOW_BYTES};
 use crate::library::{decode, encode, Lent};
@@ -23,6 +23,8 @@ const SHADOW_FILL: u8 = 5;
 /// A list is shorter than one of these, and as many tables as this are damaged after it.
 const LONGEST_HISTORIES: [u64; 3] = [150, 150, 600];
 const TABLES_TO_A_HISTORY: u64 = 50;
+/// One table in so many is lent under the rule that its list was not under.
+const OTHER_RULE: u64 = 3;
 /// Makes these random numbers others than the lists'.
 const SALT: u64 = 0xda3a_6ed0;
 
@@ -99,6 +101,9 @@ fn damaged(seed: u64, (lent, ledger): &(Lent, Ledger), seen: &mut Coverage) -> C
     for _ in 0..1 + r.below(3) / 2 {
         let which = *r.pick(DAMAGES);
         damage(&mut r, which, &mut lent);
+    }
+    if r.one_in(OTHER_RULE) {
+        damage(&mut r, Damage::RuleOther, &mut lent);
     }
     let guide = guide(&lent, ledger);
     list_call(&mut r, &lent, &guide, seen)?;

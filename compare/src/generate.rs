@@ -168,8 +168,8 @@ struct Stage {
     /// Whether its rule lets anybody enter a queue.
     has_queues: bool,
     /// Events, by code and number, that hardly a table but a lent one has: commits whose reads beside their parent's
-    /// show how a join takes times, or whose kept sum alone is no amount, and ends of a kind whose counter is at its
-    /// most.
+    /// show how a join takes times, whose kept sum alone is no amount, or whose clash the rule does not ask, and ends
+    /// of a kind whose counter is at its most.
     rare: Vec<(u64, u64)>,
 }
 
@@ -182,11 +182,12 @@ impl Stage {
         let may_commit = |n: &u64| t.queue(t.action(*n).kind()).length == 0;
         let committers: Vec<u64> = leaves.iter().copied().filter(may_commit).collect();
         let ends = |code| move |n: &u64| (code, *n);
-        let tells = |n: u64| Joins::of(t, n).is_telling() || w.only_kept_sum_fails(t.action(n));
+        let has_queues = t.rule == Rule::Backward;
+        let is_unasked = |n: u64| !has_queues && t.knows_clash(n);
+        let tells = |n: u64| Joins::of(t, n).is_telling() || w.only_kept_sum_fails(t.action(n)) || is_unasked(n);
         let mut rare: Vec<(u64, u64)> = committers.iter().filter(|n| tells(**n)).map(ends(EVENT_COMMIT)).collect();
         let counted_out = |n: &&u64| t.is_counted_out(t.action(**n).kind());
         rare.extend(committers.iter().filter(counted_out).map(ends(EVENT_COMMIT)));
-        let has_queues = t.rule == Rule::Backward;
         rare.extend(leaves.iter().filter(|_| has_queues).filter(counted_out).map(ends(EVENT_ENTER)));
         let entries: Vec<&Entry> = t.queues.iter().flat_map(|queue| queue.waiting()).collect();
         let queued = entries.iter().map(|w| w.number).collect();
@@ -315,7 +316,7 @@ fn likely(r: &mut Random, w: &Ledger, style: Style) -> Event {
 
 fn code(r: &mut Random, stage: &Stage, style: Style) -> u64 {
     if stage.has_ready_head && r.one_in(RARE) {
-        return *r.pick(&[EVENT_ABORT, EVENT_JUDGE]);
+        return if stage.has_queues { *r.pick(&[EVENT_ABORT, EVENT_JUDGE]) } else { EVENT_ABORT };
     }
     if stage.leaves.is_empty() && !r.one_in(4) {
         return EVENT_JUDGE;

@@ -1,5 +1,5 @@
-//! compare: the library beside a second engine, by results (`check`) and by time (`bench`); or one of them alone on a day
-//! file, the second engine (`lines`, `tree`) or the library (`library`).
+//! compare: the library beside a second engine, by results (`check`) and by time (`bench`); or one of them alone on a
+//! day file, the second engine (`lines`, `tree`) or the library (`library`).
 
 mod action;
 mod ahead;

@@ -130,7 +130,7 @@ impl RuleCoverage {
         let table = &after.table;
         match (table.rule, done.answer) {
             (Rule::Forward, Answer::Failed(..)) => self.failed(after, table.action(before.number)),
-            (Rule::Forward, Answer::Committed(_)) => self.passed(table, table.action(before.number)),
+            (Rule::Forward, Answer::Committed(_)) => self.passed(before, table),
             (Rule::Forward, Answer::Refused(cause)) => self.refused(before, table, cause),
             (Rule::Forward, Answer::Aborted(..)) => done.left.iter().for_each(|w| self.left(table, w)),
             (Rule::Backward, Answer::Committed(_)) => {
@@ -158,7 +158,8 @@ impl RuleCoverage {
         self.note(true, of_kind(FAILED, me.kind()));
     }
 
-    fn passed(&mut self, table: &Table, me: &Action) {
+    fn passed(&mut self, before: &Before, table: &Table) {
+        let me = table.action(before.number);
         let rivals: Vec<&Action> = table.rivals(me).collect();
         let mut siblings = table.held().filter(|a| a.parent == me.parent && a.number != me.number);
         let meets = |a: &Action| over_any(|k| changes(me, k) && a.has_read(k));
@@ -169,7 +170,7 @@ impl RuleCoverage {
         let wrote = me.wrote_something();
         self.note(!wrote && rivals.iter().any(|m| m.has_read_any()), NOTHING_WRITTEN);
         self.note(wrote, of_kind(PASSED, me.kind()));
-        self.note(table.first_clash(me.number).is_some(), WITH_CLASH);
+        self.note(before.has_clash, WITH_CLASH);
         self.passed_beside_others(table, me);
     }
 

@@ -21,11 +21,11 @@ use rules::store::CARD_LENGTH;
 
 // table::open
 #[no_mangle]
-pub extern "C" fn mundzavch_open(table: &mut [u64]) -> u64
-    ensures cause { λ r. ⌜ r ≡ openCause (now (table .entry)) ⌝ }
-    ensures leaves { λ r. ⌜ now (table .exit) ≡ openTable (now (table .entry)) ⌝ }
+pub extern "C" fn mundzavch_open(table: &mut [u64], rule: u64) -> u64
+    ensures cause { λ r. ⌜ r ≡ openCause (now (table .entry)) rule ⌝ }
+    ensures leaves { λ r. ⌜ now (table .exit) ≡ openTable (now (table .entry)) rule ⌝ }
 {
-    table::open(table)
+    table::open(table, rule)
 }
 
 // table::highest

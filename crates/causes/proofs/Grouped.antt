@@ -16,7 +16,7 @@ use Rattle.rules.specs.Cause.{Cause, firstCause, isStoreLengthWrong, queueCause
 use Rattle.rules.proofs.Laws.Tests.{and-left, and-right, test, cond-holds}
 use Rattle.rules.proofs.Laws.Allowed.{not-given, stores-fit}
 use Rattle.rules.proofs.Sound.Soundness.{facts, tested}
-use Rattle.causes.specs.Groups.{startCauses, writeCauses, addCauses, cardCauses, busyCauses, accountCauses, timeCauses, enterCauses, commitCauses, judgeCauses, kindCauses}
+use Rattle.causes.specs.Groups.{isMisfit, startCauses, writeCauses, addCauses, cardCauses, busyCauses, accountCauses, timeCauses, enterCauses, commitCauses, judgeCauses, kindCauses}
 
 -- ---- causes, and others behind them
 
@@ -129,16 +129,17 @@ module _ (w : List ℕ) (e : Event) (known : e .number ≤ highest w) where
   abbrev ByKind : ℕ → Type 0
   ByKind code =
       let f = eventOf code (e .number) (e .account) (e .card) in
-      firstCause (drop 4 (earlyCauses w f)) ≡ firstCause (kindCauses w f)
+      firstCause (drop 5 (earlyCauses w f)) ≡ firstCause (kindCauses w f)
 
   pub causes-of-kind :
-      (startCode ≤ e .code) × (e .code ≤ judgeCode) → e .code ≢ startCode → e .number ≢ 0 → isLive w (e .number) ≡ true →
+      (startCode ≤ e .code) × (e .code ≤ judgeCode) → isMisfit w (e .code) ≡ false → e .code ≢ startCode → e .number ≢ 0 → isLive w (e .number) ≡ true →
       firstCause (earlyCauses w e) ≡ firstCause (kindCauses w e)
   unfolding earlyCauses kindCauses accountCauses cardCauses writeCauses addCauses busyCauses timeCauses enterCauses commitCauses judgeCauses
-  causes-of-kind code other named alive =
+  causes-of-kind code fits other named alive =
       rw (
         le-leb startCode (e .code) (code .0),
         le-leb (e .code) judgeCode (code .1),
+        fits,
         le-ltb (highest w) (e .number) known,
         ne-eqb (e .code) startCode other,
         ne-eqb (e .number) 0 named,

@@ -1,12 +1,16 @@
 -- RULES 8.1: the causes that are asked together, by the kind of the event; they are those of `earlyCauses` that are left
 -- (proofs/Grouped.antt). Assumes nothing.
 use Prim.Native.Nat.{ℕ}
-use mathlib.Core.Bool.{true, not, cond}
+use mathlib.Core.Bool.{Bool, true, not, cond, _||_}
 use mathlib.Core.List.{List, [], _∷_, _++_}
 use lib.Dec.{eqb}
 use Rattle.rules.specs.Card.{isCharge}
-use Rattle.rules.specs.Event.{Event, writeCode, addCode, isCommit, isAbort, isEnter, isJudge}
-use Rattle.rules.specs.Cause.{Cause, notLiveCause, isNotLive, tableFullCause, isTableFull, accountCause, isAccountUnknown, cardLengthCause, isCardLengthWrong, kindCause, amountCause, isAmountTooLarge, childLiveCause, isChildLive, queuedCause, isQueuedAlready, judgeCause, isJudgeVain, queueCause, isOvertaking, timeCause, isTimeSpent}
+use Rattle.rules.specs.Event.{Event, writeCode, addCode, enterCode, judgeCode, isCommit, isAbort, isEnter, isJudge}
+use Rattle.rules.specs.Cause.{Cause, isRuleMisfit, notLiveCause, isNotLive, tableFullCause, isTableFull, accountCause, isAccountUnknown, cardLengthCause, isCardLengthWrong, kindCause, amountCause, isAmountTooLarge, childLiveCause, isChildLive, queuedCause, isQueuedAlready, judgeCause, isJudgeVain, queueCause, isOvertaking, timeCause, isTimeSpent}
+
+-- cause 21 applies to an event with this code
+abbrev pub isMisfit : List ℕ → ℕ → Bool
+isMisfit w code = isRuleMisfit w (eqb code enterCode || eqb code judgeCode)
 
 -- of a start under a number that is known
 unfoldable pub startCauses : List ℕ → ℕ → List Cause

@@ -5,7 +5,7 @@ ghost use Rattle.rules.specs.Table.{highest};
 ghost use Rattle.rules.specs.Sound.{IsGiven, Sound};
 ghost use Rattle.rules.specs.Event.{eventOf};
 ghost use Rattle.rules.specs.Cause.{firstCause, storeCauses, earlyCauses};
-ghost use Rattle.causes.specs.Groups.{startCauses, kindCauses, accountCauses, cardCauses, writeCauses, addCauses};
+ghost use Rattle.causes.specs.Groups.{isMisfit, startCauses, kindCauses, accountCauses, cardCauses, writeCauses, addCauses};
 use crate::busy::busy_cause;
 use crate::busy::commit_cause;
 use crate::busy::enter_cause;
@@ -16,6 +16,7 @@ use amounts::limit::is_addable;
 use numbers::free::NO_NUMBER;
 use numbers::free::next_number;
 use rows::fields::highest;
+use rows::fields::is_forward;
 use rows::fields::is_live;
 use rules::amount::AMOUNT_AT;
 use rules::cause;
@@ -44,6 +45,20 @@ pub fn store_cause(table: &[u64], base: &[u8], shadow: &[u8]) -> u64
     cause::NONE
 }
 
+// Cause 21 applies: an enter or a judge, and the table judges forwards.
+fn is_misfit(table: &[u64], code: u64) -> bool
+    requires { ⌜ Sound (now table) ⌝ }
+    ensures { λ r. ⌜ r ≡ isMisfit (now (table .entry)) code ⌝ }
+{
+    if code == event::ENTER {
+        return is_forward(table);
+    }
+    if code == event::JUDGE {
+        return is_forward(table);
+    }
+    false
+}
+
 // All other causes but the last, of a table that is sound.
 pub fn event_cause(table: &[u64], code: u64, number: u64, account: u64, card: &[u8]) -> u64
     requires { ⌜ Sound (now table) ⌝ }
@@ -54,6 +69,9 @@ pub fn event_cause(table: &[u64], code: u64, number: u64, account: u64, card: &[
     }
     if event::JUDGE < code {
         return cause::CODE;
+    }
+    if is_misfit(table, code) {
+        return cause::MISFIT;
     }
     if highest(table) < number {
         return cause::NUMBER;

@@ -6,7 +6,7 @@ ghost use Rattle.rules.specs.Ledger.{ledgerOf};
 ghost use Rattle.rules.specs.Sound.{IsLiveAction, Sound};
 ghost use mathlib.Core.Bool.{false};
 ghost use Rattle.rules.specs.Cause.{isCommitOutside};
-ghost use Rattle.rules.specs.Clash.{firstClash};
+ghost use Rattle.rules.specs.Verdict.{commitVerdict};
 ghost use Rattle.rules.specs.declared.Found.the-variants.{Nothing};
 ghost use Rattle.rules.specs.Commit.{commitTime, committedUnder};
 ghost use Rattle.rules.specs.Step.{outcomeOf, commit};
@@ -24,7 +24,7 @@ use rules::Found;
 use rules::cause::SUM;
 use rules::table::ABORTED;
 use rules::table::STORE;
-use validation::verdict::clash_of;
+use validation::verdict::commit_verdict;
 
 // A commit that passes: the copies, the end, the kept sums, the newest end times, and the sets for a parent that is an action.
 // Back comes the end time.
@@ -55,11 +55,11 @@ pub fn commit(table: &mut [u64], base: &mut [u8], shadow: &mut [u8], n: u64) -> 
     requires { ⌜ IsLiveAction (now table) n ⌝ }
     requires { ⌜ StoresFit (now base) (now shadow) ⌝ }
     ensures { λ r. ⌜ outcomeOf r (now (table .exit)) (now (base .exit)) (now (shadow .exit))
-        ≡ unlessOutside (isCommitOutside (now (table .entry)) (now (base .entry)) n (firstClash (now (table .entry)) n))
+        ≡ unlessOutside (isCommitOutside (now (table .entry)) (now (base .entry)) n (commitVerdict (now (table .entry)) n))
         (ledgerOf (now (table .entry)) (now (base .entry)) (now (shadow .entry)))
         (commit (ledgerOf (now (table .entry)) (now (base .entry)) (now (shadow .entry))) n) ⌝ }
 {
-    let found = clash_of(table, n);
+    let found = commit_verdict(table, n);
     match found {
         Found::Nothing => {
             if is_outside(table, base, n) {

@@ -18,6 +18,7 @@ use rules::day::LISTING_LENGTH;
 use rules::event::EVENT_LENGTH;
 use rules::store::BASE_LENGTH;
 use rules::store::SHADOW_LENGTH;
+use rules::table::BACKWARD_RULE;
 use rules::table::TABLE_LENGTH;
 
 pub(crate) fn day_cause(file: &[u8], table: &[u64], base: &[u8], shadow: &[u8]) -> u64
@@ -60,7 +61,7 @@ pub(crate) fn run_file(
     ensures answers { λ r. ⌜ now (answers .exit)
         ≡ dayWords (now (shadow .entry)) (now (file .entry)) (now (answers .entry)) ⌝ }
 {
-    table::open(table);
+    table::open(table, BACKWARD_RULE);
     open_base(file, base);
     let at = events_at(file);
     lists::run::run(table, base, shadow, &file[at..], answers);

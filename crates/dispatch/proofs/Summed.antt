@@ -10,7 +10,7 @@ use Rattle.rules.specs.declared.Answer.{Answer}
 use Rattle.rules.specs.declared.Answer.the-variants.{Refused}
 use Rattle.rules.specs.Event.{Event, startCode, readCode, writeCode, commitCode, addCode}
 use Rattle.rules.specs.Cause.{firstCause, earlyCauses, sumCause, isReadOutside, isAddOutside, isCommitOutside, areOutside, isSumOutside}
-use Rattle.rules.specs.Clash.{firstClash}
+use Rattle.rules.specs.Verdict.{commitVerdict}
 use Rattle.rules.specs.Ledger.{Ledger, ledgerOf}
 use Rattle.rules.specs.Step.{outcomeOf, start, read, write, add, commit, act, step}
 use Rattle.causes.proofs.Grouped.{Accepted, event-summed}
@@ -63,7 +63,7 @@ module _
   pub step-of-commit :
       e .code ≡ commitCode →
       step s e
-      ≡ unlessOutside (isCommitOutside (s .table) (s .base) (e .number) (firstClash (s .table) (e .number))) s
+      ≡ unlessOutside (isCommitOutside (s .table) (s .base) (e .number) (commitVerdict (s .table) (e .number))) s
       (commit s (e .number))
   unfolding act areOutside
   step-of-commit is = summed ∙ rw is

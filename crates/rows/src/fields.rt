@@ -2,12 +2,15 @@
 ghost use mathlib.Core.Path.{_≡_};
 ghost use Rattle.rules.specs.Card.{IsAccount, IsCharge};
 ghost use Rattle.rules.specs.Kind.{kindUnder};
-ghost use Rattle.rules.specs.Table.{highest, withHighest, parentOf, withParent, kindOf, stateOf, withState, hasRead, hasWritten, hasCard, writeEntry, withWrite, pendingWord, withPending, ownAddsWord, withOwnAdds, keptWord, withKept, isLive, isCommitted};
+ghost use Rattle.rules.specs.Table.{highest, withHighest, isForward, parentOf, withParent, kindOf, stateOf, withState, hasRead, hasWritten, hasCard, writeEntry, withWrite, pendingWord, withPending, ownAddsWord, withOwnAdds, keptWord, withKept, isLive, isCommitted};
+ghost use Rattle.rules.specs.Sound.{hasRule};
 ghost use Rattle.rows.specs.Row.{HasRow};
 use crate::words::get;
 use crate::words::put;
 use rules::store::FIRST_CHARGE;
+use rules::table::BACKWARD_RULE;
 use rules::table::COMMITTED;
+use rules::table::FORWARD_RULE;
 use rules::table::HEAD;
 use rules::table::HIGHEST_FIELD;
 use rules::table::KEPT_FIELDS;
@@ -17,6 +20,7 @@ use rules::table::OWN_ADDS_FIELDS;
 use rules::table::PARENT_FIELD;
 use rules::table::PENDING_FIELDS;
 use rules::table::READ_FIELDS;
+use rules::table::RULE_FIELD;
 use rules::table::STATE_FIELD;
 use rules::table::STORE;
 use rules::table::SUB;
@@ -35,6 +39,28 @@ pub fn set_highest(table: &mut [u64], v: u64)
     ensures { λ r. ⌜ now (table .exit) ≡ withHighest (now (table .entry)) v ⌝ }
 {
     put(table, HEAD, HIGHEST_FIELD, v);
+}
+
+// The rule's word is the rule less 1.
+const BACKWARD_WORD: u64 = BACKWARD_RULE - 1;
+
+const FORWARD_WORD: u64 = FORWARD_RULE - 1;
+
+pub fn is_forward(table: &[u64]) -> bool
+    requires { ⌜ HasRow (now table) 0 ⌝ }
+    ensures { λ r. ⌜ r ≡ isForward (now (table .entry)) ⌝ }
+{
+    get(table, HEAD, RULE_FIELD) == FORWARD_WORD
+}
+
+pub fn has_rule(table: &[u64]) -> bool
+    requires { ⌜ HasRow (now table) 0 ⌝ }
+    ensures { λ r. ⌜ r ≡ hasRule (now (table .entry)) ⌝ }
+{
+    if get(table, HEAD, RULE_FIELD) == BACKWARD_WORD {
+        return true;
+    }
+    is_forward(table)
 }
 
 pub fn parent(table: &[u64], n: u64) -> u64

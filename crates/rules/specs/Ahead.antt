@@ -21,20 +21,28 @@ isRival w n m =
 abbrev pub isReadAhead : List ℕ → ℕ → ℕ → ℕ → Bool
 isReadAhead w n m k = hasWritten w n k && hasRead w m k
 
--- m and the first of the accounts ks that m has read and n has written, or else what was found behind m
-unfoldable pub aheadOver : List ℕ → ℕ → ℕ → List ℕ → Found → Found
-aheadOver w n m [] behind = behind
-aheadOver w n m (k ∷ ks) behind =
-    let rest = aheadOver w n m ks behind in
+-- m and the first of the accounts ks that m has read and n has written
+unfoldable pub aheadOver : List ℕ → ℕ → ℕ → List ℕ → Found
+aheadOver w n m [] = Nothing
+aheadOver w n m (k ∷ ks) =
+    let rest = aheadOver w n m ks in
     cond (isReadAhead w n m k) (At m k) rest
 
--- the first of the actions ms that is a reader ahead of n, and the first account that makes it one
+-- m and the first account over which it is a reader ahead of n
+unfoldable pub aheadBy : List ℕ → ℕ → ℕ → Found
+aheadBy w n m =
+    let found = aheadOver w n m accounts in
+    cond (isRival w n m) found Nothing
+
+-- the first that is found
+abbrev pub orElse : Found → Found → Found
+orElse Nothing later = later
+orElse (At m k) later = At m k
+
+-- the first of the actions ms that is a reader ahead of n, and its account
 unfoldable pub aheadAmong : List ℕ → ℕ → List ℕ → Found
 aheadAmong w n [] = Nothing
-aheadAmong w n (m ∷ ms) =
-    let behind = aheadAmong w n ms in
-    let found = aheadOver w n m accounts behind in
-    cond (isRival w n m) found behind
+aheadAmong w n (m ∷ ms) = orElse (aheadBy w n m) (aheadAmong w n ms)
 
 -- RULES 4.13: the first reader ahead of action n, which its commit answers under rule 2: its number and the account
 unfoldable pub firstAhead : List ℕ → ℕ → Found

@@ -11,6 +11,7 @@ use crate::newest::are_newest_in_time;
 use crate::parents::all_parents_true;
 use crate::queue::are_sound_queues;
 use rows::entries::queue_length;
+use rows::fields::has_rule;
 use rows::fields::highest;
 use rows::times::has_times_left;
 use rules::table::MOST_ACTIONS;
@@ -56,6 +57,9 @@ pub fn is_sound(table: &[u64]) -> bool
         return false;
     }
     if MOST_ACTIONS < highest(table) {
+        return false;
+    }
+    if !has_rule(table) {
         return false;
     }
     if !are_bounded(table) {

@@ -1,11 +1,14 @@
 // A new table, and a table's three numbers: all that a caller asks of a table outside of events.
 ghost use mathlib.Core.Path.{_≡_};
 ghost use Rattle.rules.specs.Kind.{topKind, subKind};
-ghost use Rattle.rules.specs.Table.{highest, counter};
-ghost use Rattle.table.specs.Open.{openCause, openTable};
+ghost use Rattle.rules.specs.Table.{newTable, highest, counter};
+ghost use Rattle.table.specs.Open.{IsTableLong, openCause, openTable};
 use rules::cause;
+use rules::table::BACKWARD_RULE;
 use rules::table::COUNTER_FIELDS;
+use rules::table::FORWARD_RULE;
 use rules::table::HIGHEST_FIELD;
+use rules::table::RULE_FIELD;
 use rules::table::SUB;
 use rules::table::TABLE_LENGTH;
 use rules::table::TOP;
@@ -17,18 +20,39 @@ const TOP_COUNTER_AT: usize = (COUNTER_FIELDS + TOP) as usize;
 
 const SUB_COUNTER_AT: usize = (COUNTER_FIELDS + SUB) as usize;
 
-// A new table in a lent buffer, whatever stood there; back comes the cause. A buffer of another length stays as it was.
-pub fn open(table: &mut [u64]) -> u64
-    ensures cause { λ r. ⌜ r ≡ openCause (now (table .entry)) ⌝ }
-    ensures leaves { λ r. ⌜ now (table .exit) ≡ openTable (now (table .entry)) ⌝ }
+const RULE_AT: usize = RULE_FIELD as usize;
+
+// The rule's word is the rule less 1.
+const FORWARD_WORD: u64 = FORWARD_RULE - 1;
+
+// All zeros, which is a new table under rule 1.
+fn clear(table: &mut [u64])
+    requires { ⌜ IsTableLong (now table) ⌝ }
+    ensures { λ r. ⌜ now (table .exit) ≡ newTable ⌝ }
 {
-    if table.len() != TABLE_LENGTH {
-        return cause::UNSOUND;
-    }
     let mut i = 0;
     while i < TABLE_LENGTH {
         table[i] = 0;
         i += 1;
+    }
+}
+
+// A new table in a lent buffer, whatever stood there, under the rule that is asked or, where that is none, under rule 1; back comes
+// the cause. A buffer of another length stays as it was.
+pub fn open(table: &mut [u64], rule: u64) -> u64
+    ensures cause { λ r. ⌜ r ≡ openCause (now (table .entry)) rule ⌝ }
+    ensures leaves { λ r. ⌜ now (table .exit) ≡ openTable (now (table .entry)) rule ⌝ }
+{
+    if table.len() != TABLE_LENGTH {
+        return cause::UNSOUND;
+    }
+    clear(table);
+    if rule == FORWARD_RULE {
+        table[RULE_AT] = FORWARD_WORD;
+        return cause::NONE;
+    }
+    if rule != BACKWARD_RULE {
+        return cause::RULE;
     }
     cause::NONE
 }

@@ -1,2 +1,3 @@
--- Facts that the proofs of the search use.
+-- Facts that the proofs of the searches use.
 mod ClashSearch
+mod AheadSearch

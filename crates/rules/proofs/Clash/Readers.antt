@@ -12,92 +12,96 @@ use Rattle.rules.specs.declared.Found.the-variants.{Nothing, At}
 use Rattle.rules.specs.Range.{upFrom}
 use Rattle.rules.specs.Card.{accountCount, accounts}
 use Rattle.rules.specs.Table.{highest, actions}
-use Rattle.rules.specs.Ahead.{isRival, isReadAhead, aheadOver, aheadAmong, firstAhead, ReaderAhead, IsFirstAhead}
+use Rattle.rules.specs.Ahead.{isRival, isReadAhead, aheadOver, aheadBy, orElse, aheadAmong, firstAhead, ReaderAhead, IsFirstAhead}
 use Rattle.rules.proofs.Laws.Tests.{test, not-both}
 use Rattle.rules.proofs.Laws.Ranges.{Within, first-or-rest, first-within, rest-within}
 use Rattle.rules.proofs.Clash.Firsts.{Before, Pairs, IsFirstPair, FindsPair, no-pair, pair-at, pair-once, pair-same}
 
-module _ (w : List ℕ) (n : ℕ) where
-  -- m with one of the c accounts from a on that make it a reader, or a pair with P
-  abbrev OverOr : ℕ → ℕ → ℕ → Pairs → Pairs
-  OverOr m a c P u l = ((u ≡ m) × Within a c l × (isReadAhead w n m l ≡ true)) ⊎ P u l
+-- what is found first is the first, where all of the one kind come before all of the other
+or-else-finds :
+    {P Q : Pairs} {f g : Found} → ((t k u l : ℕ) → P t k → Q u l → t < u) → FindsPair P f → FindsPair Q g →
+    FindsPair (λ u l. P u l ⊎ Q u l) (orElse f g)
+or-else-finds sooner (no-pair none) found = pair-same (λ u l. (inr, ⊎-elim (λ p. absurd (none u l p)) (λ q. q))) found
+or-else-finds sooner (pair-at {t = t} {k = k} it) found =
+    pair-at
+    (record {
+      has = inl (it .has);
+      first = λ u l. ⊎-elim (it .first u l) (λ q. inl (sooner t k u l (it .has) q));
+    })
 
-  -- where those behind are found behind m, those of m are found before them
-  over-finds :
-      (m a c : ℕ) {P : Pairs} {behind : Found} → ((u l : ℕ) → P u l → m < u) → FindsPair P behind →
-      FindsPair (OverOr m a c P) (aheadOver w n m (upFrom a c) behind)
+module _ (w : List ℕ) (n : ℕ) where
+  -- m with one of the c accounts from a on that it has read and n has written
+  abbrev Over : ℕ → ℕ → ℕ → Pairs
+  Over m a c u l = (u ≡ m) × Within a c l × (isReadAhead w n m l ≡ true)
+
+  over-finds : (m a c : ℕ) → FindsPair (Over m a c) (aheadOver w n m (upFrom a c))
   unfolding aheadOver upFrom
-  over-finds m a zero later found =
-      pair-same (λ u l. (inr, ⊎-elim (λ (_, inside, _). absurd (omega (arith, inside, add-zero a))) (λ p. p))) found
-  over-finds m a (suc c) {P} later found =
+  over-finds m a zero = no-pair (λ u l (_, inside, _). omega (arith, inside, add-zero a))
+  over-finds m a (suc c) =
       ⊎-elim
       (λ met.
       rw met
       (pair-at
       (record {
-        has = inl (refl, first-within a c, met);
-        first = λ u l. ⊎-elim (λ (same, inside, _). inr (sym same, inside .0)) (λ p. inl (later u l p));
+        has = (refl, first-within a c, met);
+        first = λ u l (same, inside, _). inr (sym same, inside .0);
       })))
-      (λ unmet. rw unmet (pair-same (λ u l. (more u l, fewer u l unmet)) (over-finds m (suc a) c later found)))
+      (λ unmet.
+      rw unmet
+      (pair-same
+      (λ u l. (
+        λ (same, inside, met). (same, rest-within a c l inside, met),
+        λ (same, inside, met). (same, rest-of unmet l inside met, met),
+      ))
+      (over-finds m (suc a) c)))
       (test (isReadAhead w n m a))
     where
-      more : (u l : ℕ) → OverOr m (suc a) c P u l → OverOr m a (suc c) P u l
-      more u l = ⊎-elim (λ (same, inside, met). inl (same, rest-within a c l inside, met)) inr
+      rest-of : isReadAhead w n m a ≡ false → (l : ℕ) → Within a (suc c) l → isReadAhead w n m l ≡ true → Within (suc a) c l
+      rest-of unmet l inside met =
+          ⊎-elim (λ e. absurd (not-both (rw e at met) unmet)) (λ rest. rest) (first-or-rest a c l inside)
 
-      fewer : (u l : ℕ) → isReadAhead w n m a ≡ false → OverOr m a (suc c) P u l → OverOr m (suc a) c P u l
-      fewer u l unmet =
-          ⊎-elim
-          (λ (same, inside, met).
-          ⊎-elim (λ e. absurd (not-both (rw e at met) unmet)) (λ rest. inl (same, rest, met)) (first-or-rest a c l inside))
-          inr
+  -- m with an account over which it is a reader ahead
+  abbrev By : ℕ → Pairs
+  By m u l = (u ≡ m) × (isRival w n m ≡ true) × (l < accountCount) × (isReadAhead w n m l ≡ true)
 
-  -- a reader ahead that is one of the c actions from a on
-  pub record ReaderAmong (a c u l : ℕ) : Type 0 where
-    pub inside : Within a c u
-    pub rival : isRival w n u ≡ true
-    pub account : l < accountCount
-    pub met : isReadAhead w n u l ≡ true
-
-  -- .. is the first of them or one of those behind it
-  among-later : (a c u l : ℕ) → ReaderAmong (suc a) c u l → ReaderAmong a (suc c) u l
-  among-later a c u l is =
-      record { inside = rest-within a c u (is .inside); rival = is .rival; account = is .account; met = is .met }
-
-  first-or-later : (a c u l : ℕ) → ReaderAmong a (suc c) u l → (u ≡ a) ⊎ ReaderAmong (suc a) c u l
-  first-or-later a c u l is =
-      ⊎-elim inl
-      (λ rest. inr (record { inside = rest; rival = is .rival; account = is .account; met = is .met }))
-      (first-or-rest a c u (is .inside))
-
-  among-finds : (a c : ℕ) → FindsPair (ReaderAmong a c) (aheadAmong w n (upFrom a c))
-  unfolding aheadAmong upFrom accounts
-  among-finds a zero = no-pair (λ u l is. absurd (omega (arith, is .inside, add-zero a)))
-  among-finds a (suc c) =
+  by-finds : (m : ℕ) → FindsPair (By m) (aheadBy w n m)
+  unfolding aheadBy accounts
+  by-finds m =
       ⊎-elim
       (λ rival.
       rw rival
-      (pair-same (λ u l. (of-first rival u l, by-number u l))
-      (over-finds a 0 accountCount (λ u l is. is .inside .0) (among-finds (suc a) c))))
-      (λ none.
-      rw none
       (pair-same
       (λ u l. (
-        among-later a c u l,
-        λ is. ⊎-elim (λ e. absurd (not-both (rw e at (is .rival)) none)) (λ later. later) (first-or-later a c u l is),
+        λ (same, inside, met). (same, rival, omega arith, met),
+        λ (same, _, account, met). (same, omega arith, met),
       ))
-      (among-finds (suc a) c)))
-      (test (isRival w n a))
-    where
-      of-first : isRival w n a ≡ true → (u l : ℕ) → OverOr a 0 accountCount (ReaderAmong (suc a) c) u l → ReaderAmong a (suc c) u l
-      of-first rival u l =
-          ⊎-elim
-          (λ (same, inside, met).
-          record { inside = rw same (first-within a c); rival = rw same rival; account = inside .1; met = rw same met })
-          (among-later a c u l)
+      (over-finds m 0 accountCount)))
+      (λ none. rw none (no-pair (λ u l is. not-both (is .1) none)))
+      (test (isRival w n m))
 
-      by-number : (u l : ℕ) → ReaderAmong a (suc c) u l → OverOr a 0 accountCount (ReaderAmong (suc a) c) u l
-      by-number u l is =
-          ⊎-elim (λ e. inl (e, (omega arith, is .account), rw e at (is .met))) inr (first-or-later a c u l is)
+  -- a reader ahead that is one of the c actions from a on
+  abbrev Among : ℕ → ℕ → Pairs
+  Among a c u l = Within a c u × (isRival w n u ≡ true) × (l < accountCount) × (isReadAhead w n u l ≡ true)
+
+  among-finds : (a c : ℕ) → FindsPair (Among a c) (aheadAmong w n (upFrom a c))
+  unfolding aheadAmong upFrom
+  among-finds a zero = no-pair (λ u l is. omega (arith, is .0, add-zero a))
+  among-finds a (suc c) =
+      pair-same (λ u l. (together u l, apart u l))
+      (or-else-finds (λ t k u l first later. omega (arith, first .0, later .0)) (by-finds a) (among-finds (suc a) c))
+    where
+      together : (u l : ℕ) → By a u l ⊎ Among (suc a) c u l → Among a (suc c) u l
+      together u l =
+          ⊎-elim
+          (λ (same, rival, account, met). (rw same (first-within a c), rw same rival, account, rw same met))
+          (λ (inside, rival, account, met). (rest-within a c u inside, rival, account, met))
+
+      apart : (u l : ℕ) → Among a (suc c) u l → By a u l ⊎ Among (suc a) c u l
+      apart u l (inside, rival, account, met) =
+          ⊎-elim
+          (λ e. inl (e, rw e at rival, account, rw e at met))
+          (λ rest. inr (rest, rival, account, met))
+          (first-or-rest a c u inside)
 
   -- ---- of all actions
 
@@ -106,8 +110,8 @@ module _ (w : List ℕ) (n : ℕ) where
   firstAhead-finds =
       pair-same
       (λ u l. (
-        λ is. let i = is .inside in record { given = omega arith; rival = is .rival; account = is .account; met = is .met },
-        λ is. let i = is .given in record { inside = omega arith; rival = is .rival; account = is .account; met = is .met },
+        λ (inside, rival, account, met). record { given = omega arith; rival = rival; account = account; met = met },
+        λ is. let i = is .given in (omega arith, is .rival, is .account, is .met),
       ))
       (among-finds 1 (highest w))
 

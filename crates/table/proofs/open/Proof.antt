@@ -1,73 +1,64 @@
--- `open` meets its contract. The loop's invariant: the first i words are 0, and the rest is as it was. The
--- measure is what is left of the table. Assumes nothing.
-use Prim.Native.Nat.{_-_, _≤_}
-use native.Mathlib.Omega.{arith}
-use mathlib.Core.Path.{_≡_, refl, ap, _∙_}
-use mathlib.Core.List.{[], _++_, append-nil}
-use borrow.Author.Fill.{fill-more}
+-- `open` meets its contract: each exit is decided by the length, then by the rule. Assumes nothing.
+use mathlib.Core.Path.{refl, ap}
 use borrow.Author.Needs.{needs}
 use borrow.Author.Tests.{eq-eqb, ne-eqb}
-use lib.ListN.{length, set, drop, replicate, length-set, drop-of-length-le}
-use Rattle.rules.specs.Table.{tableLength, newTable}
+use lib.ListN.{set}
+use Rattle.rules.specs.Table.{tableLength, withWord, backwardRule, forwardRule, newTableUnder}
 use Rattle.table.proofs.open.Statement.{statement}
 use Rattle.table.proofs.open.Tie as tie
 
-abbrev Inv-loop : tie.InvT-loop
-Inv-loop table₀ i₀ table i = (i ≤ tableLength) × (length table ≡ tableLength) × (table ≡ replicate i 0 ++ drop i table₀)
-
-abbrev μ-loop : tie.MeasureT-loop
-μ-loop table₀ i₀ table i = tableLength - i
-
-returns : tie.Need-returns Inv-loop μ-loop
+returns : tie.Need-returns
 returns c = rw (ne-eqb _ tableLength (c .if1 .taken)) (refl, refl)
 
-loop-holds : tie.Need-loop-holds Inv-loop μ-loop
-loop-holds c = search needs
+clear-requires : tie.Need-clear-requires
+clear-requires c κs = search needs
 
-mul-table : tie.Need-mul-table Inv-loop μ-loop
-mul-table c = search needs
-
-slice-write-table : tie.Need-slice-write-table Inv-loop μ-loop
+slice-write-table : tie.Need-slice-write-table
 slice-write-table c = search needs
 
-add-i : tie.Need-add-i Inv-loop μ-loop
-add-i c = search needs
-
-loop-less : tie.Need-loop-less Inv-loop μ-loop
-loop-less c = search needs
-
-loop-again : tie.Need-loop-again Inv-loop μ-loop
-loop-again c =
-    let loop = c .before .loop in (
-      omega arith,
-      simp length-set (loop .inv .1),
-      ap (λ table. set table (loop .i) 0) (loop .inv .2) ∙ fill-more (loop .i) 0 _ (omega arith),
-    )
-
-same-length : tie.Need-same-length Inv-loop μ-loop
+same-length : tie.Need-same-length
 same-length c = search needs
 
-returns-2 : tie.Need-returns-2 Inv-loop μ-loop
-unfolding newTable
+returns-2 : tie.Need-returns-2
+unfolding newTableUnder withWord
 returns-2 c =
-    let table₀ = c .before .before .before .args .table .now in
-    let done : c .before .loop .i ≡ tableLength = omega arith in
-    let none : drop tableLength table₀ ≡ [] = drop-of-length-le table₀ {i = tableLength} (omega arith) in
-    rw (eq-eqb (length table₀) tableLength (c .before .before .if1 .left))
-    (refl, c .before .loop .inv .2 ∙ rw (done, none) (append-nil newTable))
+    let cleared = c .before .before .before in
+    rw (eq-eqb _ tableLength (cleared .before .before .if1 .left), c .if2 .taken)
+    (refl, ap (λ table. set table 5 1) (cleared .clear .ensures))
+
+same-length-2 : tie.Need-same-length-2
+same-length-2 c = search needs
+
+returns-3 : tie.Need-returns-3
+unfolding newTableUnder
+returns-3 c =
+    let cleared = c .before .before .before .before in
+    rw (
+      eq-eqb _ tableLength (cleared .before .before .if1 .left),
+      ne-eqb _ backwardRule (c .if3 .taken),
+      ne-eqb _ forwardRule (c .before .if2 .left),
+    )
+    (refl, cleared .clear .ensures)
+
+same-length-3 : tie.Need-same-length-3
+same-length-3 c = search needs
+
+returns-4 : tie.Need-returns-4
+unfolding newTableUnder
+returns-4 c =
+    let cleared = c .before .before .before .before in
+    rw (eq-eqb _ tableLength (cleared .before .before .if1 .left), c .if3 .left) (refl, cleared .clear .ensures)
 
 pub open-spec : {M : Type 1} → statement M
 open-spec =
     tie.close
     (tie.spec
-    Inv-loop
-    μ-loop
     returns
-    loop-holds
-    mul-table
+    clear-requires
     slice-write-table
-    add-i
-    loop-less
-    loop-again
     same-length
-    returns-2)
+    returns-2
+    same-length-2
+    returns-3
+    same-length-3
+    returns-4)

@@ -1,5 +1,5 @@
--- `commit` leaves and answers what `judged` says of the clash that the search found, or of none, or it refuses where there is
--- none and a sum is outside. Assumes nothing.
+-- `commit` leaves and answers what `judged` says of what was found against it, or of nothing, or it refuses where there is nothing
+-- and a sum is outside. Assumes nothing.
 use mathlib.Core.Path.{sym, _∙_}
 use borrow.Author.Needs.{needs}
 use Rattle.rules.specs.Cause.{isCommitOutside}
@@ -7,8 +7,8 @@ use Rattle.rules.specs.Step.{commit, judged}
 use Rattle.commits.proofs.commit.commit.Statement.{statement}
 use Rattle.commits.proofs.commit.commit.Tie as tie
 
-clash-of-requires : tie.Need-clash-of-requires
-clash-of-requires c κs = search needs
+commit-verdict-requires : tie.Need-commit-verdict-requires
+commit-verdict-requires c κs = search needs
 
 enum-told : tie.Need-enum-told
 enum-told c = search needs
@@ -26,7 +26,7 @@ returns : tie.Need-returns
 returns c =
     let told = c .before .before .before .before in
     rw (
-      ← told .before .before .clash-of .ensures,
+      ← told .before .before .commit-verdict .ensures,
       told .enum-told .given .1,
       sym (c .before .is-outside .ensures) ∙ c .if1 .taken,
     )
@@ -61,7 +61,7 @@ returns-2 c =
     let tested = passed .before .before .before .before in
     let told = tested .before .before .before .before in
     rw (
-      ← told .before .before .clash-of .ensures,
+      ← told .before .before .commit-verdict .ensures,
       told .enum-told .given .1,
       sym (tested .before .is-outside .ensures) ∙ tested .if1 .left,
     )
@@ -75,13 +75,13 @@ unfolding commit judged isCommitOutside
 returns-3 c =
     let put = c .before .before in
     let told = put .before .before .before in
-    rw (← told .before .before .clash-of .ensures, told .found .given .1, put .set-state .ensures)
+    rw (← told .before .before .commit-verdict .ensures, told .found .given .1, put .set-state .ensures)
 
 pub commit-spec : {M : Type 1} → statement M
 commit-spec =
     tie.close
     (tie.spec
-    clash-of-requires
+    commit-verdict-requires
     enum-told
     is-outside-requires
     same-length
