@@ -12,7 +12,7 @@ use lib.Dec.{eqb}
 use lib.ListN.{length, replicate, length-append, length-replicate}
 use lib.Seq.{length-sets}
 use Rattle.rules.specs.Card.{baseLength}
-use Rattle.rules.specs.Table.{mostActions}
+use Rattle.rules.specs.Table.{mostActions, backwardRule, newTableUnder}
 use Rattle.rules.specs.Ledger.{Ledger, ledgerOf}
 use Rattle.rules.specs.Encoding.{eventsIn}
 use Rattle.rules.specs.Tree.{treeLines, reportLength, withReport, Report, reportOf, report}
@@ -94,8 +94,8 @@ module _ (s : Ledger) (opening file : List ℕ) where
       Accepts s file → length (openingBase file) ≡ baseLength →
       let after = dayRun (s .shadow) file .after in
       HasReport (after .table) (after .base) (after .shadow) (openingBase file)
-  unfolding dayRun
-  day-reported a opens = balanced (openingBase file) (s .shadow) opens (a .shadowFits) (eventsIn (eventBytes file)) .reported
+  unfolding dayRun newTableUnder
+  day-reported a opens = balanced backwardRule (openingBase file) (s .shadow) opens (a .shadowFits) (eventsIn (eventBytes file)) .reported
 
   -- what the call gives back, refused or run
   pub tree-refused :

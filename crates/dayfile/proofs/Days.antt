@@ -14,7 +14,7 @@ use lib.ListN.{length, take, drop, replicate, length-append, length-drop, length
 use lib.Seq.{take-all}
 use Rattle.rules.specs.Card.{baseLength}
 use Rattle.rules.specs.Kind.{topKind, subKind}
-use Rattle.rules.specs.Table.{tableLength, newTable, counter}
+use Rattle.rules.specs.Table.{tableLength, newTable, backwardRule, newTableUnder, counter}
 use Rattle.rules.specs.Cause.{isStoreLengthWrong}
 use Rattle.rules.specs.Event.{Event}
 use Rattle.rules.specs.Ledger.{Ledger, ledgerOf}
@@ -64,7 +64,8 @@ module _ (s : Ledger) (file buffer : List ℕ) (a : Accepts s file) (room : HasA
     opened = ledgerOf newTable (openingBase file) (s .shadow)
 
     accepted : Accepted newTable (openingBase file) (s .shadow)
-    accepted = (record { baseFits = fits; shadowFits = a .shadowFits }, new-sound)
+    unfolding newTableUnder
+    accepted = (record { baseFits = fits; shadowFits = a .shadowFits }, new-sound backwardRule)
 
     list-runs : listCause opened (eventBytes file) buffer ≡ 0
     list-runs =
@@ -79,10 +80,11 @@ module _ (s : Ledger) (file buffer : List ℕ) (a : Accepts s file) (room : HasA
 
   -- from what opening, the opening base store and the list call leave to what the day's definition says
   pub file-ran :
-      {table base events words : List ℕ} {now : Ledger} {cause : ℕ} → table ≡ openTable (s .table) → base ≡ openingBase file →
+      {table base events words : List ℕ} {now : Ledger} {cause : ℕ} → table ≡ openTable (s .table) backwardRule → base ≡ openingBase file →
       length base ≡ baseLength → events ≡ eventBytes file →
       listedOf cause now words ≡ runList (ledgerOf table base (s .shadow)) events buffer →
       (now ≡ dayRun (s .shadow) file .after) × (words ≡ dayWords (s .shadow) file buffer)
+  unfolding newTableUnder
   file-ran {table} {base} {events} {words} {now} {cause} isTable isBase fits isEvents listed =
       let new : table ≡ newTable = isTable ∙ rw (eq-eqb _ tableLength (a .tableFits)) in
       let long : length (openingBase file) ≡ baseLength = ap length (sym isBase) ∙ fits in
