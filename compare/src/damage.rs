@@ -103,6 +103,8 @@ const TABLE_LENGTHS: [usize; 10] = [
 ];
 /// Words of the head that nothing is kept in.
 const UNUSED_HEAD: std::ops::Range<usize> = HEAD_WORDS..KEPT;
+/// Words that say no rule: what would be rule 0, and what ends in the bits of a rule's.
+const NO_RULES: [u64; 5] = [u64::MAX, 1 << 8, 1 << 32, 1 << 32 | 1, 1 << 63];
 /// One opening store in so many has another length.
 const OTHER_OPENING: u64 = 8;
 /// One action in so many gets other own adds or kept sums: all, some or few of them.
@@ -176,13 +178,12 @@ fn damage_other(r: &mut Random, damage: Damage, lent: &mut Lent) {
     }
 }
 
-/// A word that says no rule and may end in the bits of one, or the rule that the table is not under: that is sound,
-/// whatever the queues hold.
+/// A word that says no rule, or the rule that the table is not under: that is sound, whatever the queues hold.
 fn damage_rule(r: &mut Random, damage: Damage, words: &mut [u64]) {
     let [backward, forward] = [Rule::Backward, Rule::Forward].map(rule_word);
     words[RULE] = match damage {
         RuleUnknown if r.one_in(2) => beyond(r, forward + 1),
-        RuleUnknown => *r.pick(&[u64::MAX, 1 << 8, 1 << 32, 1 << 32 | forward, 1 << 63]),
+        RuleUnknown => *r.pick(&NO_RULES),
         _ if words[RULE] == backward => forward,
         _ => backward,
     };

@@ -17,15 +17,19 @@ use std::fmt;
 
 #[derive(Default)]
 pub struct RuleCoverage {
+    /// Of events under rule 2.
     met: BTreeMap<String, u64>,
+    /// Commits under rule 1 that passed with a reader ahead.
+    passed_backward: u64,
     /// By the number of the rule.
     lists: BTreeMap<u64, u64>,
     serial_reads: BTreeMap<u64, u64>,
     openings: BTreeMap<String, u64>,
 }
 
-// ---- what there is to meet
+// ---- what there is to meet under rule 2
 
+/// Of commits that fail, and of those that pass.
 const FOR_SIBLING: &str = "failed for a sibling";
 const FOR_ONE_BELOW: &str = "failed for one below a sibling";
 const FOR_LATER_START: &str = "failed for one that started after another reader";
@@ -40,12 +44,12 @@ const NOTHING_WRITTEN: &str = "passed with nothing written, beside readers";
 const READ_ABOVE: &str = "passed, and one above it has read what it changes";
 const READ_BESIDE_ABOVE: &str = "passed, and one beside those above it has read what it changes";
 const WITH_CLASH: &str = "passed with a clash";
+/// Of those that are refused, and of queues that a lent table has.
 const COUNTED_OUT: &str = "refused 19 with a reader ahead";
 const QUEUE_FIRST: &str = "refused 18";
 const SUM: &str = "refused 15 of a commit";
-const LEFT_JUDGED_BY_NOBODY: &str = "left a queue with a reader ahead";
-/// Under rule 1, unlike all others.
-const BACKWARD: &str = "passed under rule 1 with a reader ahead";
+const LEFT_WITH_READER: &str = "left a queue at an abort with a reader ahead";
+const LEFT_FOR_SUMS: &str = "left a queue at an abort as aborted";
 
 const MET: [&str; 19] = [
     FOR_SIBLING,
@@ -65,14 +69,14 @@ const MET: [&str; 19] = [
     COUNTED_OUT,
     QUEUE_FIRST,
     SUM,
-    LEFT_JUDGED_BY_NOBODY,
-    BACKWARD,
+    LEFT_WITH_READER,
+    LEFT_FOR_SUMS,
 ];
 
+/// Of each kind.
 const FAILED: &str = "failed";
 const PASSED: &str = "passed with something written";
 const LEFT: &str = "left a queue at an abort as committed";
-const LEFT_FOR_SUMS: &str = "left a queue at an abort as aborted";
 
 fn of_kind(what: &str, kind: Kind) -> String {
     format!("{what}, of {}", name(kind))
@@ -92,11 +96,11 @@ fn opened(asked: u64, cause: u64) -> String {
     format!("{asked} answered {cause}")
 }
 
-/// All that is to be met of events.
+/// All that is to be met of events under rule 2.
 fn to_meet() -> Vec<String> {
     let mut all: Vec<String> = MET.map(str::to_string).into();
     for kind in KINDS {
-        all.extend([FAILED, PASSED, LEFT, LEFT_FOR_SUMS].map(|what| of_kind(what, kind)));
+        all.extend([FAILED, PASSED, LEFT].map(|what| of_kind(what, kind)));
     }
     for event in [ENTER, JUDGE] {
         all.extend([NOBODY, LIVE, FINISHED].map(|whom| refused_21(event, whom)));
@@ -134,7 +138,7 @@ impl RuleCoverage {
             (Rule::Forward, Answer::Refused(cause)) => self.refused(before, table, cause),
             (Rule::Forward, Answer::Aborted(..)) => done.left.iter().for_each(|w| self.left(table, w)),
             (Rule::Backward, Answer::Committed(_)) => {
-                self.note(table.first_reader_ahead(before.number).is_some(), BACKWARD)
+                self.passed_backward += u64::from(table.first_reader_ahead(before.number).is_some())
             }
             _ => {}
         }
@@ -198,10 +202,10 @@ impl RuleCoverage {
 
     /// One that left a queue; those who are live now were live then.
     fn left(&mut self, table: &Table, leaver: &Leaver) {
-        let what = if leaver.committed { LEFT } else { LEFT_FOR_SUMS };
-        self.note(true, of_kind(what, table.action(leaver.number).kind()));
         let has_reader = table.first_reader_ahead(leaver.number).is_some();
-        self.note(leaver.committed && has_reader, LEFT_JUDGED_BY_NOBODY);
+        self.note(leaver.committed, of_kind(LEFT, table.action(leaver.number).kind()));
+        self.note(leaver.committed && has_reader, LEFT_WITH_READER);
+        self.note(!leaver.committed, LEFT_FOR_SUMS);
     }
 
     pub fn list(&mut self, rule: Rule) {
@@ -220,8 +224,9 @@ impl RuleCoverage {
     /// What a comparison has to meet.
     pub fn points(&self) -> Vec<Point> {
         let met = |counts: &BTreeMap<String, u64>, key: &String| counts.get(key).copied().unwrap_or(0);
-        let event = |what: String| (format!("rule 2: {what}"), met(&self.met, &what));
+        let event = |what: String| (format!("under rule 2: {what}"), met(&self.met, &what));
         let mut points: Vec<Point> = to_meet().into_iter().map(event).collect();
+        points.push(("passed under rule 1 with a reader ahead".to_string(), self.passed_backward));
         for asked in ASKED {
             let answers = [Table::opened(asked).0, cause::UNSOUND].map(|cause| opened(asked, cause));
             points.extend(answers.map(|what| (format!("an opening under {what}"), met(&self.openings, &what))));
@@ -238,6 +243,7 @@ impl fmt::Display for RuleCoverage {
     fn fmt(&self, f: &mut fmt::Formatter) -> fmt::Result {
         row(f, "lists by rule", &self.lists)?;
         row(f, "reads held to the serial run by rule", &self.serial_reads)?;
+        writeln!(f, "passed under rule 1 with a reader ahead: {}", self.passed_backward)?;
         writeln!(f, "under rule 2")?;
         self.met.iter().try_for_each(|(what, count)| writeln!(f, "  {what}: {count}"))?;
         writeln!(f, "openings under")?;

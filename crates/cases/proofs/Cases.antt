@@ -6,13 +6,14 @@ use Rattle.rules.specs.Range.{upFrom, downTo, any, all, count, filter, fold}
 use Rattle.rules.specs.Card.{accounts, chargeAccounts, cardAt, withCard}
 use Rattle.rules.specs.Amount.{amountOf, amountWord, isAmount, isAddable, lowFirst, bytesLowFirst, amountIn, withAmount, baseAmount}
 use Rattle.rules.specs.Kind.{kinds, kindUnder}
-use Rattle.rules.specs.Table.{word, withWord, withFields, withoutAdds, withoutKept, withoutNewest, newTable, hasWrites, withReads, withBothSets, withSets, actions, parents, hasLiveChild, isRecordOf, records}
+use Rattle.rules.specs.Table.{word, withWord, withFields, withoutAdds, withoutKept, withoutNewest, newTable, backwardRule, newTableUnder, hasWrites, withReads, withBothSets, withSets, actions, parents, hasLiveChild, isRecordOf, records}
 use Rattle.rules.specs.Walk.{walkUp, climbs, isAtOrBelow, isUnder}
 use Rattle.rules.specs.Free.{hasReadBefore, needs, isNeeded, isFree, firstFree, freshNumber, nextNumber}
 use Rattle.rules.specs.Queue.{entryAt, withEntry, queue, isQueued, isQueuedFailed, isQueuedReady, isWaiting, isHeadReady, withEntries, withQueue, withTail, readied, withReady, keepsPlace, withoutBelow}
 use Rattle.rules.specs.Sound.{isBounded, hasTimesIn, hasReadInTime, hasEndAlone, hasPendingWritten, isSoundAction, mayWait, areDistinct, queueNumbers, isSoundQueue, isNewestInTime, isToldTrue, isNewestTrue, areNewestTrue, sound, hasWayUp}
 use Rattle.rules.specs.Stale.{isStale, isKnownClash}
-use Rattle.rules.specs.Verdict.{meets, isMetBy, isMetInQueue, verdictOf}
+use Rattle.rules.specs.Ahead.{isRival, aheadOver, aheadBy, aheadAmong, firstAhead}
+use Rattle.rules.specs.Verdict.{commitVerdict, meets, isMetBy, isMetInQueue, verdictOf}
 use Rattle.rules.specs.Cause.{commitSum, isCommitOutside, isReadOutside, areOutside, storeCauses, earlyCauses, lateCauses, causesOf, causeOf}
 use Rattle.rules.specs.Nearest.{nearest, movesUp, readSum}
 use Rattle.rules.specs.Look.{lookCause, look}
@@ -24,7 +25,9 @@ use Rattle.rules.specs.Ledger.{Ledger}
 use Rattle.rules.specs.Step.{orphaned, giveTable, start, readAnswer, read, readTable, write, writeTable, add, addTable, commit, judged, finished, leaveWhile, leave, leaveBoth, enterTable, enter, revealed, judgeLeft, judge, outOfBoth, dropped, abortLeft, abort, abortTable, act, step, actLeavers, leaversAt}
 use Rattle.rules.specs.Run.{Ran, run}
 use Rattle.rules.specs.Tree.{children, linesWithin, treeLines, isShown, figuresOf, isFigureOutside, treeCauses, treeCause}
-use Rattle.cases.specs.Case.{opening, resultIn, resultOf, Case, Hold, casesTo14, casesTo25, casesTo30, casesTo37, casesTo43, cases}
+use Rattle.cases.specs.Case.{openingUnder, opening, resultIn, resultOf, Case, Hold, casesTo14, casesTo25, casesTo30, casesTo37, casesTo43}
+use Rattle.cases.specs.BothRules.{casesTo51, casesTo62}
+use Rattle.cases.specs.Cases.{cases}
 use Rattle.cases.proofs.ProperRuns.{laterCause, properStep, properLeavers, properRun, opened-run}
 use Rattle.cases.specs.Moments.{moments, watched, momentsExpected}
 use Rattle.cases.specs.Newests.{NewestCase, newestsIn, newestsAfter, newestCases, newestsExpected}
@@ -40,7 +43,7 @@ use Rattle.cases.specs.Trees.{treeAfter, treeEvents, treesExpected}
 
 -- Named on an `unfolding` line, this lets all that a list of events takes compute.
 computing : Ledger → List Event → Ran
-unfolding upFrom downTo any all count filter fold accounts chargeAccounts cardAt withCard amountOf amountWord isAmount isAddable lowFirst bytesLowFirst amountIn withAmount baseAmount kinds kindUnder word withWord withFields withoutAdds withoutKept withoutNewest newTable hasWrites withReads withBothSets withSets actions parents hasLiveChild isRecordOf records walkUp isAtOrBelow climbs isUnder hasReadBefore needs isNeeded isFree firstFree freshNumber nextNumber entryAt withEntry queue isQueued isQueuedFailed isQueuedReady isWaiting isHeadReady withEntries withQueue withTail readied withReady keepsPlace withoutBelow isBounded hasWayUp hasTimesIn hasReadInTime hasEndAlone hasPendingWritten isSoundAction mayWait areDistinct queueNumbers isSoundQueue isStale isNewestInTime isToldTrue isNewestTrue areNewestTrue sound meets isMetBy isMetInQueue verdictOf commitSum isCommitOutside isReadOutside areOutside storeCauses earlyCauses lateCauses causesOf causeOf nearest movesUp readSum pairsWith clashesWith clashes least firstClash start orphaned giveTable readAnswer read readTable write writeTable add addTable commit commitTime commitCounter withHeldCard withHeldSum copyOne copiedDown keepTable noteTable joinTable committedUnder judged finished leaveWhile leave leaveBoth enterTable enter revealed judgeLeft judge outOfBoth dropped abortLeft abort abortTable act step run
+unfolding upFrom downTo any all count filter fold accounts chargeAccounts cardAt withCard amountOf amountWord isAmount isAddable lowFirst bytesLowFirst amountIn withAmount baseAmount kinds kindUnder word withWord withFields withoutAdds withoutKept withoutNewest newTable newTableUnder hasWrites withReads withBothSets withSets actions parents hasLiveChild isRecordOf records walkUp isAtOrBelow climbs isUnder hasReadBefore needs isNeeded isFree firstFree freshNumber nextNumber entryAt withEntry queue isQueued isQueuedFailed isQueuedReady isWaiting isHeadReady withEntries withQueue withTail readied withReady keepsPlace withoutBelow isBounded hasWayUp hasTimesIn hasReadInTime hasEndAlone hasPendingWritten isSoundAction mayWait areDistinct queueNumbers isSoundQueue isStale isNewestInTime isToldTrue isNewestTrue areNewestTrue sound isRival aheadOver aheadBy aheadAmong firstAhead commitVerdict meets isMetBy isMetInQueue verdictOf commitSum isCommitOutside isReadOutside areOutside storeCauses earlyCauses lateCauses causesOf causeOf nearest movesUp readSum pairsWith clashesWith clashes least firstClash start orphaned giveTable readAnswer read readTable write writeTable add addTable commit commitTime commitCounter withHeldCard withHeldSum copyOne copiedDown keepTable noteTable joinTable committedUnder judged finished leaveWhile leave leaveBoth enterTable enter revealed judgeLeft judge outOfBoth dropped abortLeft abort abortTable act step run
 computing = run
 
 -- The same for a list from a new table, where no table is tested.
@@ -51,10 +54,10 @@ properly = properRun
 -- the cases of specs/Case.antt: part by part, and all of them
 hold-properly :
     (cs : List Case) →
-    map (λ c. resultIn (c .question) (properRun opening (c .question .events))) cs ≡ map (λ c. c .expected) cs → Hold cs
+    map (λ c. resultIn (c .question) (properRun (openingUnder (c .question .rule)) (c .question .events))) cs ≡ map (λ c. c .expected) cs → Hold cs
 unfolding resultOf
 hold-properly cs computed =
-    ap (λ f. map f cs) (fun-ext (λ (c : Case). ap (resultIn (c .question)) (opened-run (c .question .events)))) ∙ computed
+    ap (λ f. map f cs) (fun-ext (λ (c : Case). ap (resultIn (c .question)) (opened-run (c .question .rule) (c .question .events)))) ∙ computed
 
 to-14-hold : Hold casesTo14
 unfolding properly lookCause look resultIn casesTo14
@@ -76,6 +79,14 @@ to-43-hold : Hold casesTo43
 unfolding properly lookCause look resultIn casesTo43
 to-43-hold = hold-properly casesTo43 refl
 
+to-51-hold : Hold casesTo51
+unfolding properly lookCause look resultIn casesTo51
+to-51-hold = hold-properly casesTo51 refl
+
+to-62-hold : Hold casesTo62
+unfolding properly lookCause look resultIn casesTo62
+to-62-hold = hold-properly casesTo62 refl
+
 both-hold : (some more : List Case) → Hold some → Hold more → Hold (some ++ more)
 both-hold some more h k = map-append _ some more ∙ ap₂ (λ x y. x ++ y) h k ∙ sym (map-append _ some more)
 
@@ -85,7 +96,9 @@ cases-hold =
     let to-25 = both-hold casesTo14 casesTo25 to-14-hold to-25-hold in
     let to-30 = both-hold (casesTo14 ++ casesTo25) casesTo30 to-25 to-30-hold in
     let to-37 = both-hold (casesTo14 ++ casesTo25 ++ casesTo30) casesTo37 to-30 to-37-hold in
-    both-hold (casesTo14 ++ casesTo25 ++ casesTo30 ++ casesTo37) casesTo43 to-37 to-43-hold
+    let to-43 = both-hold (casesTo14 ++ casesTo25 ++ casesTo30 ++ casesTo37) casesTo43 to-37 to-43-hold in
+    let to-51 = both-hold (casesTo14 ++ casesTo25 ++ casesTo30 ++ casesTo37 ++ casesTo43) casesTo51 to-43 to-51-hold in
+    both-hold (casesTo14 ++ casesTo25 ++ casesTo30 ++ casesTo37 ++ casesTo43 ++ casesTo51) casesTo62 to-51 to-62-hold
 
 -- the moments of specs/Moments.antt
 pub moments-hold : map moments watched ≡ momentsExpected
@@ -100,7 +113,7 @@ newests-computed = refl
 pub newests-hold : map newestsAfter newestCases ≡ newestsExpected
 unfolding newestsAfter
 newests-hold =
-    ap (λ f. map f newestCases) (fun-ext (λ (c : NewestCase). ap (newestsIn c) (opened-run (c .events)))) ∙ newests-computed
+    ap (λ f. map f newestCases) (fun-ext (λ (c : NewestCase). ap (newestsIn c) (opened-run backwardRule (c .events)))) ∙ newests-computed
 
 -- the example of specs/Example.antt: what the serial run is told, and what it gives then
 told-holds : exampleTold ≡ toldExpected

@@ -16,7 +16,7 @@ use Rattle.rules.specs.Step.{Outcome, act, step, actLeavers, leaversAt}
 use Rattle.rules.specs.Run.{Ran, run}
 use Rattle.rules.proofs.Sound.Soundness.{tested}
 use Rattle.rules.proofs.Demand.Proper.{Proper, new-proper, step-keeps-proper}
-use Rattle.cases.specs.Case.{opening}
+use Rattle.cases.specs.Case.{openingUnder}
 
 -- ---- without the first two causes
 
@@ -69,6 +69,6 @@ same-run s proper (e ∷ es) =
     ∙ ap (λ leavers. before (step s e) leavers (properRun (step s e .after) es)) (same-leavers s proper e)
     ∙ ap (λ one. before one (properLeavers s e) (properRun (one .after) es)) (same-step s proper e)
 
-pub opened-run : (es : List Event) → run opening es ≡ properRun opening es
-opened-run =
-    same-run opening (new-proper _ _ (length-replicate {A = ℕ} baseLength 0) (length-replicate {A = ℕ} shadowLength 0))
+pub opened-run : (r : ℕ) (es : List Event) → run (openingUnder r) es ≡ properRun (openingUnder r) es
+opened-run r =
+    same-run (openingUnder r) (new-proper r _ _ (length-replicate {A = ℕ} baseLength 0) (length-replicate {A = ℕ} shadowLength 0))

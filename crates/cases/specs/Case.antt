@@ -1,5 +1,5 @@
--- RULES 13: the worked cases that are proved, in one list of five parts, each of which computes by itself; proofs/Cases.antt proves
--- all of them by one theorem. Assumes nothing.
+-- RULES 13: what a worked case asks and what it gives, and those of rule 1 that are proved, in five parts, each of which computes by
+-- itself. BothRules.antt has those of both rules, Cases.antt the one list of all. Assumes nothing.
 use Prim.Native.Nat.{ℕ}
 use mathlib.Core.Path.{_≡_}
 use mathlib.Core.List.{List, [], _∷_, _++_, map}
@@ -10,15 +10,19 @@ use Rattle.rules.specs.declared.Answer.the-variants.{Started, Read, ReadSum, Wr
 use Rattle.rules.specs.Card.{cardLength, baseLength, shadowLength, basePlace, cardAt}
 use Rattle.rules.specs.Amount.{withAmount}
 use Rattle.rules.specs.Kind.{topKind, subKind}
-use Rattle.rules.specs.Table.{newTable, highest, counter}
+use Rattle.rules.specs.Table.{backwardRule, highest, counter}
 use Rattle.rules.specs.Event.{Event, eventOf, startUnder, readBy, writeBy, commitOf, abortOf, addBy, enterOf, judgeOf}
 use Rattle.rules.specs.Look.{look, bytesOf}
 use Rattle.rules.specs.Ledger.{Ledger}
 use Rattle.rules.specs.Run.{Ran, run}
+use Rattle.rules.specs.Serial.Demand.{newOver}
 
--- a new table over stores of zeros
+-- a new table under rule r over stores of zeros
+abbrev pub openingUnder : ℕ → Ledger
+openingUnder r = newOver r (replicate baseLength 0) (replicate shadowLength 0)
+
 abbrev pub opening : Ledger
-opening = record { table = newTable; base = replicate baseLength 0; shadow = replicate shadowLength 0 }
+opening = openingUnder backwardRule
 
 -- a card of 32 bytes b
 abbrev pub filledWith : ℕ → List ℕ
@@ -44,8 +48,9 @@ shown s spot =
     let looked = look (s .table) (s .base) (s .shadow) (spot .action) (spot .account) in
     record { cause = looked .cause; card = bytesOf (s .base) (s .shadow) (looked .part); moves = looked .moves }
 
--- what is asked of a case: its events, and which base cards and which looks to show after them
+-- what is asked of a case: the table's rule, its events, and which base cards and which looks to show after them
 pub record Question : Type 0 where
+  pub rule : ℕ
   pub events : List Event
   pub baseAccounts : List ℕ
   pub spots : List Spot
@@ -72,16 +77,20 @@ resultIn q ran =
     }
 
 unfoldable pub resultOf : Question → Result
-resultOf q = resultIn q (run opening (q .events))
+resultOf q = resultIn q (run (openingUnder (q .rule)) (q .events))
 
 pub record Case : Type 0 where
   pub question : Question
   pub expected : Result
 
-abbrev asking : List Event → List ℕ → List Spot → Question
-asking es ks spots = record { events = es; baseAccounts = ks; spots = spots }
+-- .. under a rule, and under rule 1
+abbrev pub askingUnder : ℕ → List Event → List ℕ → List Spot → Question
+askingUnder r es ks spots = record { rule = r; events = es; baseAccounts = ks; spots = spots }
 
-abbrev giving : List Answer → ℕ → ℕ → ℕ → List (List ℕ) → List Shown → Result
+abbrev asking : List Event → List ℕ → List Spot → Question
+asking = askingUnder backwardRule
+
+abbrev pub giving : List Answer → ℕ → ℕ → ℕ → List (List ℕ) → List Shown → Result
 giving answers most tops subs baseCards looks =
     record { answers = answers; highest = most; tops = tops; subs = subs; baseCards = baseCards; looks = looks }
 
@@ -103,7 +112,7 @@ adding n k cents = addBy n k (amountCard (pos cents))
 abbrev pub taking : ℕ → ℕ → ℕ → Event
 taking n k cents = addBy n k (amountCard (negℤ (pos cents)))
 
-abbrev case : Question → Result → Case
+abbrev pub case : Question → Result → Case
 case q r = record { question = q; expected = r }
 
 -- the cases of this list hold
@@ -423,6 +432,3 @@ casesTo43 =
     (startUnder 0 ∷ startUnder 0 ∷ writeBy 1 0 (filledWith 1) ∷ commitOf 1 ∷ readBy 2 3 ∷ startUnder 0 ∷ []) [] [])
     (giving (Started 1 ∷ Started 2 ∷ Written ∷ Committed 1 ∷ Read 0 1 ∷ Started 1 ∷ []) 2 1 0 [] [])
     ∷ []
-
-unfoldable pub cases : List Case
-cases = casesTo14 ++ casesTo25 ++ casesTo30 ++ casesTo37 ++ casesTo43
