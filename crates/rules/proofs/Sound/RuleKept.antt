@@ -1,20 +1,25 @@
--- RULES 1.12: no event changes the table's rule, nor does a list of them. Assumes nothing.
+-- RULES 1.12 and 7.17: a sound table is under one of the two rules, and no event changes which, nor does a list of them. Assumes
+-- nothing.
 use Prim.Native.Nat.{ℕ}
 use native.Mathlib.Omega.{arith}
 use mathlib.Core.Path.{_≡_, refl, _∙_}
+use mathlib.Core.Logic.{_⊎_, inl, inr, ⊎-elim}
 use mathlib.Core.Bool.{Bool, true, false}
 use mathlib.Core.List.{List, [], _∷_}
+use lib.Dec.{eqb}
+use borrow.Author.Tests.{eqb-true}
 use Rattle.rules.specs.declared.Found.{Found}
 use Rattle.rules.specs.declared.Found.the-variants.{Nothing, At}
 use Rattle.rules.specs.Card.{IsCharge}
 use Rattle.rules.specs.Kind.{IsKind, topKind, subKind}
-use Rattle.rules.specs.Table.{ruleOf, parentOf, kindOf}
+use Rattle.rules.specs.Table.{ruleOf, backwardRule, forwardRule, parentOf, kindOf}
 use Rattle.rules.specs.Queue.{isHeadReady}
 use Rattle.rules.specs.Sound.{Sound}
 use Rattle.rules.specs.Event.{Event}
 use Rattle.rules.specs.Ledger.{Ledger}
 use Rattle.rules.specs.Step.{Outcome, start, read, write, add, judged, finished, headIn, headOut, isHeadOutside, headLeft, leave, leaveBoth, enterTable, enter, isJudgedFailed, revealed, judgeLeft, judge, outOfBoth, dropped, abortLeft, abort, step}
 use Rattle.rules.specs.Run.{run}
+use Rattle.rules.proofs.Laws.Tests.{or-cases}
 use Rattle.rules.proofs.Laws.Kinds.{kind-known}
 use Rattle.rules.proofs.Laws.Freeing.{next-givable}
 use Rattle.rules.proofs.Laws.Permitted.{Startable, Touchable, Committable, Judgeable, step-by-kind}
@@ -28,6 +33,15 @@ use Rattle.rules.proofs.Sound.QueueChanges.{tail-change, ready-change, 
 use Rattle.rules.proofs.Sound.TakingOut.{half-sound, out-sound, out-reach, out-spared}
 use Rattle.rules.proofs.Sound.Leaving.{head-out-sound, head-committable, leave-by-heads, leave-keeps-sound}
 use Rattle.rules.proofs.Sound.Kept.{left-sound, revealed-sound, dropped-sound, step-keeps-sound}
+
+pub sound-rule : {w : List ℕ} → Sound w → (ruleOf w ≡ backwardRule) ⊎ (ruleOf w ≡ forwardRule)
+sound-rule {w} s =
+    ⊎-elim
+    (λ is. inl (eqb-true (ruleOf w) backwardRule is))
+    (λ is. inr (eqb-true (ruleOf w) forwardRule is))
+    (or-cases (eqb (ruleOf w) backwardRule) (eqb (ruleOf w) forwardRule) (s .ruled))
+
+-- ---- it stays
 
 -- the ledger t has the rule of s
 abbrev SameRule : Ledger → Ledger → Type 0
