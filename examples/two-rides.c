@@ -56,7 +56,7 @@ static void event(const char *what, uint64_t code, uint64_t number, uint64_t acc
 
 int main(void)
 {
-    mundzavch_open(table, MUNDZAVCH_TABLE_WORDS);
+    mundzavch_open(table, MUNDZAVCH_TABLE_WORDS, MUNDZAVCH_RULE_BACKWARD);
     event("a run starts", MUNDZAVCH_EVENT_START, STORE, NONE, NONE);
     event("its first batch starts", MUNDZAVCH_EVENT_START, RUN, NONE, NONE);
     event("its second batch starts", MUNDZAVCH_EVENT_START, RUN, NONE, NONE);

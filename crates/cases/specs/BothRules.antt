@@ -1,8 +1,6 @@
 -- RULES 13: the worked cases under both rules, from 46 on: what the forward rule answers, beside what the backward rule does where
 -- that is new. Assumes nothing.
-use Prim.Native.Nat.{ℕ}
 use mathlib.Core.List.{List, [], _∷_}
-use Rattle.rules.specs.declared.Answer.{Answer}
 use Rattle.rules.specs.declared.Answer.the-variants.{Started, Read, ReadSum, Written, Added, Committed, Failed, Aborted, Refused}
 use Rattle.rules.specs.Table.{backwardRule, forwardRule}
 use Rattle.rules.specs.Event.{Event, eventOf, startUnder, readBy, writeBy, commitOf, abortOf, enterOf, judgeOf}

@@ -5,5 +5,6 @@ pub mod Clashes
 pub mod Records
 pub mod Searching
 pub mod Known
+pub mod Rivals
 pub mod Readers
 pub mod CommitAnswers

@@ -1,6 +1,7 @@
 -- RULES 4.12 and 4.13: forward validation, by what the actions that are still live have read. Assumes nothing.
 use Prim.Native.Nat.{ℕ, _≤_, _<_}
 use mathlib.Core.Path.{_≡_}
+use mathlib.Core.Logic.{_≢_}
 use mathlib.Core.Bool.{Bool, true, not, cond, _&&_}
 use mathlib.Core.List.{List, [], _∷_}
 use Rattle.rules.specs.declared.Found.{Found}
@@ -8,7 +9,7 @@ use Rattle.rules.specs.declared.Found.the-variants.{Nothing, At}
 use Rattle.rules.specs.Card.{accountCount, accounts}
 use Rattle.rules.specs.Table.{parentOf, hasRead, hasWritten, isLive, actions}
 use Rattle.rules.specs.Walk.{isAtOrBelow, isUnder}
-use Rattle.rules.specs.Sound.{IsGiven}
+use Rattle.rules.specs.Sound.{IsGiven, IsLiveAction}
 
 -- RULES 4.12: m is a rival of n: live and below n's parent, at whatever depth, and neither n nor below n. Whether m is live comes
 -- first: the parents of finished actions may run in a ring.
@@ -48,7 +49,16 @@ aheadAmong w n (m ∷ ms) = orElse (aheadBy w n m) (aheadAmong w n ms)
 unfoldable pub firstAhead : List ℕ → ℕ → Found
 firstAhead w n = aheadAmong w n (actions w)
 
--- ---- the same as facts (proofs/Clash/Readers.antt)
+-- ---- the same as facts (proofs/Clash/Rivals.antt and Readers.antt)
+
+-- RULES 4.12: a rival, in document 02's words: m is a live sibling of n, or live and below one
+pub record BySibling (w : List ℕ) (n m : ℕ) : Type 0 where
+  pub lives : IsLiveAction w m
+  pub sibling : ℕ
+  pub siblingLives : IsLiveAction w sibling
+  pub sameParent : parentOf w sibling ≡ parentOf w n
+  pub other : sibling ≢ n
+  pub atOrBelow : isAtOrBelow w sibling m ≡ true
 
 -- RULES 4.12: m is a reader ahead of n over account k
 pub record ReaderAhead (w : List ℕ) (n m k : ℕ) : Type 0 where

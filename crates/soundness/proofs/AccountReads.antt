@@ -2,8 +2,8 @@
 -- parent's records. Assumes nothing.
 use Prim.Native.Nat.{ℕ, _<_}
 use native.Mathlib.Omega.{arith}
-use mathlib.Core.Path.{_≡_, refl, sym, ap, _∙_}
-use mathlib.Core.Bool.{Bool, true, false, Bool·beq}
+use mathlib.Core.Path.{_≡_, sym, ap, _∙_}
+use mathlib.Core.Bool.{true}
 use mathlib.Core.List.{List}
 use lib.Dec.{ltb, eqb}
 use lib.ListN.{getD}
@@ -18,7 +18,7 @@ use Rattle.rules.specs.Sound.{isToldTrue, isNewestTrue, areNewestTrue, StoreOrL
 use Rattle.rules.proofs.Laws.Tests.{implied, implies, same-test}
 use Rattle.rules.proofs.Laws.Ranges.{all-at, all-of}
 use Rattle.rules.proofs.Sound.Scans.{all-given, given-all}
-use Rattle.rules.proofs.Sound.NewestClauses.{held-test}
+use Rattle.rules.proofs.Sound.NewestClauses.{same-alike, held-test}
 use Rattle.soundness.specs.Held.{endsHeld}
 use Rattle.soundness.specs.Reads.{isReadTrue, areReadsTrue}
 use Rattle.soundness.proofs.HeldEnds.{stale-by-ends}
@@ -30,11 +30,7 @@ module _ (w : List ℕ) (p : ℕ) where
   unfolding isToldTrue
   same-told k account same m =
       let t = readTime w (kindUnder p) m k in
-      implies (hasRead w m k) _ (λ has. alike (isKnownStale w p k t) (isStale w p k t) (ap (ltb t) same ∙ sym (stale-by-ends w p k account t)))
-    where
-      alike : (a b : Bool) → a ≡ b → Bool·beq a b ≡ true
-      alike true b one = rw (← one) refl
-      alike false b one = rw (← one) refl
+      implies (hasRead w m k) _ (λ has. same-alike (isKnownStale w p k t) (isStale w p k t) (ap (ltb t) same ∙ sym (stale-by-ends w p k account t)))
 
   pub same-end-true : (k : ℕ) → k < accountCount → eqb (newest w p k) (getD (endsHeld w p) k 0) ≡ true → areReadsTrue w p k ≡ true
   unfolding areReadsTrue isReadTrue

@@ -2,11 +2,11 @@
 -- number on. Assumes nothing.
 use Prim.Native.Nat.{ℕ, _+_, _-_, _≤_, _<_}
 use native.Mathlib.Omega.{arith}
-use mathlib.Core.Path.{_≡_, refl}
+use mathlib.Core.Path.{_≡_}
 use mathlib.Core.Bool.{true, false}
 use mathlib.Core.List.{List}
 use Rattle.rules.specs.Range.{upFrom}
-use Rattle.rules.specs.Card.{accountCount, accounts}
+use Rattle.rules.specs.Card.{accountCount}
 use Rattle.rules.specs.Table.{highest, actions}
 use Rattle.rules.specs.declared.Found.the-variants.{Nothing, At}
 use Rattle.rules.specs.Ahead.{isReadAhead, aheadOver, aheadBy, aheadAmong, firstAhead}

@@ -1,7 +1,7 @@
 -- What a commit answers, by what its rule finds against it: demand 2's second half, under either rule. Assumes nothing.
 use Prim.Native.Nat.{ℕ}
 use mathlib.Core.Path.{_≡_, refl, sym, ap, _∙_}
-use mathlib.Core.Logic.{_↔_, _≢_}
+use mathlib.Core.Logic.{_↔_}
 use mathlib.Core.Bool.{true, false}
 use mathlib.Core.List.{List, []}
 use borrow.Author.Tests.{eqb-true}

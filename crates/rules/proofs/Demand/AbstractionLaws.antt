@@ -12,7 +12,7 @@ use lib.IntN.{ℤ, pos, _+ℤ_, +ℤ-idl}
 use borrow.Author.Tests.{ltb-true, leb-true, leb-false, not-true, lt-ltb, le-ltb, le-leb}
 use Rattle.rules.specs.Card.{accountCount, firstCharge, isCharge, IsCharge, basePlace, shadowPlace, cardAt}
 use Rattle.rules.specs.Amount.{amountOf}
-use Rattle.rules.specs.Table.{newTableUnder, mostActions, word, highest, parentOf, hasRead, hasWritten, hasCard, pendingSum, isLive}
+use Rattle.rules.specs.Table.{newTableUnder, mostActions, highest, parentOf, hasRead, hasWritten, hasCard, pendingSum, isLive}
 use Rattle.rules.specs.Walk.{Climbs}
 use Rattle.rules.specs.Sound.{IsGiven}
 use Rattle.rules.specs.Ledger.{Ledger}

@@ -25,7 +25,7 @@ alike-same true false h = absurd (false≢true h)
 alike-same false true h = absurd (false≢true h)
 alike-same false false h = refl
 
-same-alike : (a b : Bool) → a ≡ b → Bool·beq a b ≡ true
+pub same-alike : (a b : Bool) → a ≡ b → Bool·beq a b ≡ true
 same-alike true b h = rw (← h) refl
 same-alike false b h = rw (← h) refl
 
