@@ -13,8 +13,8 @@ pub record Said : Type 0 where
   pub numbers : List ℕ
   pub sum : Option ℤ
 
--- A failed commit's first number is an end time under rule 1 and an action under rule 2.
--- For each case of the type its word, `started` to `refused`, its numbers in their order, and its sum
+-- for each case of the type its word, `started` to `refused`, its numbers in their order, and its sum; the first number of a failed
+-- commit is an end time under rule 1 and an action under rule 2
 abbrev pub said : Answer → Said
 said (Started n) = record { word = 115 ∷ 116 ∷ 97 ∷ 114 ∷ 116 ∷ 101 ∷ 100 ∷ []; numbers = n ∷ []; sum = none }
 said (Read holder moves) = record { word = 114 ∷ 101 ∷ 97 ∷ 100 ∷ []; numbers = holder ∷ moves ∷ []; sum = none }
