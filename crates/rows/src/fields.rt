@@ -8,9 +8,9 @@ ghost use Rattle.rows.specs.Row.{HasRow};
 use crate::words::get;
 use crate::words::put;
 use rules::store::FIRST_CHARGE;
-use rules::table::BACKWARD_RULE;
+use rules::table::BACKWARD_WORD;
 use rules::table::COMMITTED;
-use rules::table::FORWARD_RULE;
+use rules::table::FORWARD_WORD;
 use rules::table::HEAD;
 use rules::table::HIGHEST_FIELD;
 use rules::table::KEPT_FIELDS;
@@ -40,11 +40,6 @@ pub fn set_highest(table: &mut [u64], v: u64)
 {
     put(table, HEAD, HIGHEST_FIELD, v);
 }
-
-// The rule's word is the rule less 1.
-const BACKWARD_WORD: u64 = BACKWARD_RULE - 1;
-
-const FORWARD_WORD: u64 = FORWARD_RULE - 1;
 
 pub fn is_forward(table: &[u64]) -> bool
     requires { ⌜ HasRow (now table) 0 ⌝ }

@@ -126,8 +126,8 @@ areNewestTrue w p =
     let told = all (isNewestTrue w p) (actions w) in
     not (isStoreOrLive w p) || told
 
--- 7.1 the length, 7.2 the highest number, 7.17 the rule, 7.3 the counters, and the clauses of each action, of each queue and of each row's newest
--- end times
+-- 7.1 the length, 7.2 the highest number, 7.17 the rule, 7.3 the counters, and the clauses of each action, of each queue and of each
+-- row's newest end times
 unfoldable pub sound : List ℕ → Bool
 sound w =
     eqb (length w) tableLength

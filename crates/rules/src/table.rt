@@ -25,8 +25,12 @@ pub const HIGHEST_FIELD: u64 = 0;
 
 pub const COUNTER_FIELDS: u64 = 1;
 
-// RULES 1.12: the rule by which the table judges commits, less 1.
+// RULES 1.12: the rule by which the table judges commits. Its word is the rule less 1, so that a table of zeros has the first.
 pub const RULE_FIELD: u64 = 5;
+
+pub const BACKWARD_WORD: u64 = BACKWARD_RULE - 1;
+
+pub const FORWARD_WORD: u64 = FORWARD_RULE - 1;
 
 // Words of an action; a read set and a write set have one for each account, from here on.
 pub const PARENT_FIELD: u64 = 0;

@@ -7,6 +7,7 @@ use rules::cause;
 use rules::table::BACKWARD_RULE;
 use rules::table::COUNTER_FIELDS;
 use rules::table::FORWARD_RULE;
+use rules::table::FORWARD_WORD;
 use rules::table::HIGHEST_FIELD;
 use rules::table::RULE_FIELD;
 use rules::table::SUB;
@@ -21,9 +22,6 @@ const TOP_COUNTER_AT: usize = (COUNTER_FIELDS + TOP) as usize;
 const SUB_COUNTER_AT: usize = (COUNTER_FIELDS + SUB) as usize;
 
 const RULE_AT: usize = RULE_FIELD as usize;
-
-// The rule's word is the rule less 1.
-const FORWARD_WORD: u64 = FORWARD_RULE - 1;
 
 // All zeros, which is a new table under rule 1.
 fn clear(table: &mut [u64])

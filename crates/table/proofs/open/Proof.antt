@@ -3,7 +3,7 @@ use mathlib.Core.Path.{refl, ap}
 use borrow.Author.Needs.{needs}
 use borrow.Author.Tests.{eq-eqb, ne-eqb}
 use lib.ListN.{set}
-use Rattle.rules.specs.Table.{tableLength, withWord, backwardRule, forwardRule, newTableUnder}
+use Rattle.rules.specs.Table.{tableLength, withWord, ruleField, backwardRule, forwardRule, newTableUnder}
 use Rattle.table.proofs.open.Statement.{statement}
 use Rattle.table.proofs.open.Tie as tie
 
@@ -24,7 +24,7 @@ unfolding newTableUnder withWord
 returns-2 c =
     let cleared = c .before .before .before in
     rw (eq-eqb _ tableLength (cleared .before .before .if1 .left), c .if2 .taken)
-    (refl, ap (λ table. set table 5 1) (cleared .clear .ensures))
+    (refl, ap (λ table. set table ruleField 1) (cleared .clear .ensures))
 
 same-length-2 : tie.Need-same-length-2
 same-length-2 c = search needs
