@@ -2,8 +2,10 @@
 -- each over a table and stores of full size. Assumes nothing.
 use mathlib.Core.Path.{_≡_, refl, sym, ap, ap₂, _∙_, fun-ext}
 use mathlib.Core.List.{List, _++_, map, flatMap, map-append}
+use Prim.Native.Nat.{ℕ}
+use lib.ListN.{length-replicate}
 use Rattle.rules.specs.Range.{upFrom, downTo, any, all, count, filter, fold}
-use Rattle.rules.specs.Card.{accounts, chargeAccounts, cardAt, withCard}
+use Rattle.rules.specs.Card.{accounts, chargeAccounts, shadowLength, cardAt, withCard}
 use Rattle.rules.specs.Amount.{amountOf, amountWord, isAmount, isAddable, lowFirst, bytesLowFirst, amountIn, withAmount, baseAmount}
 use Rattle.rules.specs.Kind.{kinds, kindUnder}
 use Rattle.rules.specs.Table.{word, withWord, withFields, withoutAdds, withoutKept, withoutNewest, newTable, backwardRule, newTableUnder, hasWrites, withReads, withBothSets, withSets, actions, parents, hasLiveChild, isRecordOf, records}
@@ -22,14 +24,15 @@ use Rattle.rules.specs.Held.{withHeldCard, withHeldSum}
 use Rattle.rules.specs.Commit.{copyOne, copiedDown, commitTime, commitCounter, keepTable, noteTable, joinTable, committedUnder}
 use Rattle.rules.specs.Event.{Event}
 use Rattle.rules.specs.Ledger.{Ledger}
-use Rattle.rules.specs.Step.{orphaned, giveTable, start, readAnswer, read, readTable, write, writeTable, add, addTable, commit, judged, finished, leaveWhile, leave, leaveBoth, enterTable, enter, revealed, judgeLeft, judge, outOfBoth, dropped, abortLeft, abort, abortTable, act, step, actLeavers, leaversAt}
+use Rattle.rules.specs.Step.{orphaned, giveTable, start, readAnswer, read, readTable, write, writeTable, add, addTable, commit, judged, finished, leaveWhile, leave, leaveBoth, enterTable, enter, revealed, judgeLeft, judge, outOfBoth, dropped, abortLeft, abort, abortTable, act, step, actLeavers}
 use Rattle.rules.specs.Run.{Ran, run}
 use Rattle.rules.specs.Tree.{children, linesWithin, treeLines, isShown, figuresOf, isFigureOutside, treeCauses, treeCause}
-use Rattle.cases.specs.Case.{openingUnder, opening, resultIn, resultOf, Case, Hold, casesTo14, casesTo25, casesTo30, casesTo37, casesTo43}
+use Rattle.rules.proofs.Demand.Proper.{Proper, new-proper}
+use Rattle.cases.specs.Case.{openingUnder, opening, toldIn, resultIn, resultOf, Case, Hold, casesTo14, casesTo25, casesTo30, casesTo37, casesTo43}
 use Rattle.cases.specs.BothRules.{casesTo51, casesTo62}
 use Rattle.cases.specs.Cases.{cases}
-use Rattle.cases.proofs.ProperRuns.{laterCause, properStep, properLeavers, properRun, opened-run}
-use Rattle.cases.specs.Moments.{moments, watched, momentsExpected}
+use Rattle.cases.proofs.ProperRuns.{laterCause, properStep, properLeavers, properRun, same-run, opened-run}
+use Rattle.cases.specs.Moments.{Watched, momentsFrom, moments, watched, momentsExpected}
 use Rattle.cases.specs.Newests.{NewestCase, newestsIn, newestsAfter, newestCases, newestsExpected}
 use Rattle.rules.specs.Serial.Effect.{lay, cardOver, sumOver}
 use Rattle.rules.specs.Serial.Told.{toldAll}
@@ -38,8 +41,8 @@ use Rattle.rules.specs.Serial.Schedule.{scheduleOf}
 use Rattle.rules.specs.Serial.Machine.{showsCard, showsSum, showsAmount, settle, written, ended, perform, performAll, serial}
 use Rattle.rules.specs.Serial.Starts.{noStarts, withCommits, withStartAt, lineageOne, lineageFrom, lineageOf, isInR}
 use Rattle.cases.specs.Example.{example, exampleTold, toldExpected, seriallyTold, exampleRun, exampleExpected}
-use Rattle.cases.specs.InR.{nested, nestedInR, nestedExpected}
-use Rattle.cases.specs.Trees.{treeAfter, treeEvents, treesExpected}
+use Rattle.cases.specs.InR.{nested, inRBy, nestedInR, nestedExpected}
+use Rattle.cases.specs.Trees.{treeOpening, treeFrom, treeAfter, treeEvents, treesExpected}
 
 -- Named on an `unfolding` line, this lets all that a list of events takes compute.
 computing : Ledger → List Event → Ran
@@ -101,9 +104,16 @@ cases-hold =
     both-hold (casesTo14 ++ casesTo25 ++ casesTo30 ++ casesTo37 ++ casesTo43 ++ casesTo51) casesTo62 to-51 to-62-hold
 
 -- the moments of specs/Moments.antt
+moments-computed : map (λ c. momentsFrom c (properRun opening (c .events) .after)) watched ≡ momentsExpected
+unfolding properly momentsFrom
+moments-computed = refl
+
 pub moments-hold : map moments watched ≡ momentsExpected
-unfolding computing moments
-moments-hold = refl
+unfolding moments
+moments-hold =
+    ap (λ f. map f watched)
+    (fun-ext (λ (c : Watched). ap (λ (ran : Ran). momentsFrom c (ran .after)) (opened-run backwardRule (c .events))))
+    ∙ moments-computed
 
 -- the newest end times of specs/Newests.antt
 newests-computed : map (λ c. newestsIn c (properRun opening (c .events))) newestCases ≡ newestsExpected
@@ -116,9 +126,13 @@ newests-hold =
     ap (λ f. map f newestCases) (fun-ext (λ (c : NewestCase). ap (newestsIn c) (opened-run backwardRule (c .events)))) ∙ newests-computed
 
 -- the example of specs/Example.antt: what the serial run is told, and what it gives then
+told-computed : toldIn (properRun opening example) ≡ toldExpected
+unfolding properly actLeavers toldAll example toldExpected
+told-computed = refl
+
 told-holds : exampleTold ≡ toldExpected
-unfolding computing actLeavers leaversAt toldAll example exampleTold toldExpected
-told-holds = refl
+unfolding exampleTold
+told-holds = ap toldIn (opened-run backwardRule example) ∙ told-computed
 
 serially-told : seriallyTold toldExpected ≡ exampleExpected
 unfolding upFrom fold accounts chargeAccounts cardAt withCard amountOf amountWord lowFirst bytesLowFirst amountIn withAmount baseAmount lay cardOver sumOver put commitsAt laidAll stepped collectOne collectFrom unknown storeBlock scheduleOf showsCard showsSum showsAmount settle written ended perform performAll serial example toldExpected seriallyTold exampleExpected
@@ -129,11 +143,26 @@ unfolding exampleRun
 example-holds = ap seriallyTold told-holds ∙ serially-told
 
 -- the list of specs/InR.antt
+nested-computed : inRBy (properRun opening nested) ≡ nestedExpected
+unfolding properly actLeavers toldAll put commitsAt noStarts withCommits withStartAt lineageOne lineageFrom lineageOf isInR nested inRBy nestedExpected
+nested-computed = refl
+
 pub nested-holds : nestedInR ≡ nestedExpected
-unfolding computing actLeavers leaversAt toldAll put commitsAt noStarts withCommits withStartAt lineageOne lineageFrom lineageOf isInR nested nestedInR nestedExpected
-nested-holds = refl
+unfolding nestedInR
+nested-holds = ap inRBy (opened-run backwardRule nested) ∙ nested-computed
 
 -- the trees of specs/Trees.antt
+tree-opening-proper : Proper treeOpening
+unfolding cardAt withCard amountOf amountWord lowFirst bytesLowFirst withAmount
+tree-opening-proper = new-proper backwardRule _ _ refl (length-replicate {A = ℕ} shadowLength 0)
+
+trees-computed : map (λ es. treeFrom (properRun treeOpening es .after)) treeEvents ≡ treesExpected
+unfolding properly flatMap children linesWithin treeLines isShown figuresOf isFigureOutside treeCauses treeCause treeFrom treeEvents treesExpected
+trees-computed = refl
+
 pub trees-hold : map treeAfter treeEvents ≡ treesExpected
-unfolding computing flatMap children linesWithin treeLines isShown figuresOf isFigureOutside treeCauses treeCause treeAfter treeEvents treesExpected
-trees-hold = refl
+unfolding treeAfter
+trees-hold =
+    ap (λ f. map f treeEvents)
+    (fun-ext (λ es. ap (λ (ran : Ran). treeFrom (ran .after)) (same-run treeOpening tree-opening-proper es)))
+    ∙ trees-computed

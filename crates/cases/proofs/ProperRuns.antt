@@ -61,7 +61,7 @@ abbrev before : Outcome → List ℕ → Ran → Ran
 before one leavers rest =
     record { answers = one .answer ∷ rest .answers; leavers = leavers ∷ rest .leavers; after = rest .after }
 
-same-run : (s : Ledger) → Proper s → (es : List Event) → run s es ≡ properRun s es
+pub same-run : (s : Ledger) → Proper s → (es : List Event) → run s es ≡ properRun s es
 unfolding run properRun
 same-run s proper [] = refl
 same-run s proper (e ∷ es) =

@@ -15,6 +15,7 @@ use Rattle.rules.specs.Event.{Event, eventOf, startUnder, readBy, writeBy, comm
 use Rattle.rules.specs.Look.{look, bytesOf}
 use Rattle.rules.specs.Ledger.{Ledger}
 use Rattle.rules.specs.Run.{Ran, run}
+use Rattle.rules.specs.Serial.Told.{Told, toldAll}
 use Rattle.rules.specs.Serial.Demand.{newOver}
 
 -- a new table under rule r over stores of zeros
@@ -23,6 +24,10 @@ openingUnder r = newOver r (replicate baseLength 0) (replicate shadowLength 0)
 
 abbrev pub opening : Ledger
 opening = openingUnder backwardRule
+
+-- what the serial run is told of what events gave (RULES 6.1)
+abbrev pub toldIn : Ran → List Told
+toldIn ran = toldAll (ran .answers) (ran .leavers)
 
 -- a card of 32 bytes b
 abbrev pub filledWith : ℕ → List ℕ

@@ -8,8 +8,8 @@ use lib.IntN.{pos}
 use Rattle.rules.specs.Card.{basePlace, cardAt}
 use Rattle.rules.specs.Event.{Event, startUnder, readBy, writeBy, commitOf, abortOf, enterOf, judgeOf}
 use Rattle.rules.specs.Run.{run}
-use Rattle.cases.specs.Case.{opening, filledWith, amountCard, adding, taking}
-use Rattle.rules.specs.Serial.Told.{Told, itBegan, itRead, itWrote, itAdded, itCommitted, itLetLeave, itDidNothing, toldAll}
+use Rattle.cases.specs.Case.{opening, toldIn, filledWith, amountCard, adding, taking}
+use Rattle.rules.specs.Serial.Told.{Told, itBegan, itRead, itWrote, itAdded, itCommitted, itLetLeave, itDidNothing}
 use Rattle.rules.specs.Serial.Machine.{Given, serial}
 
 unfoldable pub example : List Event
@@ -38,7 +38,7 @@ example =
 
 -- what the serial run is told of it, and what that is, event by event
 unfoldable pub exampleTold : List Told
-exampleTold = let ran = run opening example in toldAll (ran .answers) (ran .leavers)
+exampleTold = toldIn (run opening example)
 
 unfoldable pub toldExpected : List Told
 toldExpected =

@@ -4,10 +4,9 @@ use mathlib.Core.Bool.{Bool, true, false}
 use mathlib.Core.List.{List, [], _∷_, map}
 use Rattle.rules.specs.Range.{upFrom}
 use Rattle.rules.specs.Event.{Event, startUnder, commitOf, abortOf, enterOf, judgeOf}
-use Rattle.rules.specs.Run.{run}
-use Rattle.rules.specs.Serial.Told.{toldAll}
+use Rattle.rules.specs.Run.{Ran, run}
 use Rattle.rules.specs.Serial.Starts.{lineageOf, isInR}
-use Rattle.cases.specs.Case.{opening}
+use Rattle.cases.specs.Case.{opening, toldIn}
 
 unfoldable pub nested : List Event
 nested =
@@ -33,11 +32,13 @@ nested =
     ∷ []
 
 -- of each action, in the order of the starts, whether it is in R
-unfoldable pub nestedInR : List Bool
-nestedInR =
-    let ran = run opening nested in
-    let h = lineageOf nested (toldAll (ran .answers) (ran .leavers)) in
+unfoldable pub inRBy : Ran → List Bool
+inRBy ran =
+    let h = lineageOf nested (toldIn ran) in
     map (isInR h) (upFrom 1 (h .starts))
+
+unfoldable pub nestedInR : List Bool
+nestedInR = inRBy (run opening nested)
 
 unfoldable pub nestedExpected : List Bool
 nestedExpected = true ∷ true ∷ true ∷ false ∷ false ∷ false ∷ false ∷ []

@@ -41,12 +41,14 @@ holds s p =
       firstCard = heldCard (s .base) (s .shadow) p first;
     }
 
--- before the first turn, after the turns down to 24, to 1 and to 0, and after the commit
-unfoldable pub moments : Watched → List Holding
-moments c =
-    let s = run opening (c .events) .after in
+-- before the first turn, after the turns down to 24, to 1 and to 0, and after the commit, of the ledger that the events have left
+unfoldable pub momentsFrom : Watched → Ledger → List Holding
+momentsFrom c s =
     map (λ k. holds (copiedDown s (c .action) (c .parent) k) (c .parent)) (accountCount ∷ 24 ∷ 1 ∷ 0 ∷ [])
     ++ holds (run s (commitOf (c .action) ∷ []) .after) (c .parent) ∷ []
+
+unfoldable pub moments : Watched → List Holding
+moments c = momentsFrom c (run opening (c .events) .after)
 
 abbrev holding : ℤ → ℕ → ℕ → Holding
 holding sum upper lower = record { lastSum = sum; lastPlainCard = filledWith upper; firstCard = filledWith lower }

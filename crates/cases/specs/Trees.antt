@@ -6,10 +6,11 @@ use mathlib.Core.List.{List, [], _∷_, _++_, map}
 use lib.IntN.{ℤ, pos, negℤ}
 use lib.ListN.{replicate}
 use Rattle.rules.specs.Card.{baseLength, shadowLength, basePlace, withCard, chargeAccounts}
-use Rattle.rules.specs.Table.{newTable, live, committed, aborted, stateOf}
+use Rattle.rules.specs.Table.{backwardRule, live, committed, aborted, stateOf}
 use Rattle.rules.specs.Event.{Event, startUnder, commitOf, abortOf}
-use Rattle.rules.specs.Ledger.{ledgerOf}
+use Rattle.rules.specs.Ledger.{Ledger}
 use Rattle.rules.specs.Run.{run}
+use Rattle.rules.specs.Serial.Demand.{newOver}
 use Rattle.rules.specs.Tree.{Line, treeLines, figuresOf, balanceOf, treeCause}
 use Rattle.cases.specs.Case.{amountCard, adding, taking}
 
@@ -40,15 +41,22 @@ abbrev opening : List ℕ
 opening =
     withCard (withCard (replicate baseLength 0) (basePlace 24) (amountCard (pos 1000))) (basePlace 31) (amountCard (negℤ (pos 5)))
 
--- the tree of the table that these events leave, over that opening store
-unfoldable pub treeAfter : List Event → Tree
-treeAfter es =
-    let s = run (ledgerOf newTable opening (replicate shadowLength 0)) es .after in
+-- a new table under rule 1 over that opening store
+abbrev pub treeOpening : Ledger
+treeOpening = newOver backwardRule opening (replicate shadowLength 0)
+
+-- the tree of a ledger, with that opening store
+unfoldable pub treeFrom : Ledger → Tree
+treeFrom s =
     record {
       cause = treeCause (s .table) (s .base) (s .shadow) opening;
       rows = map (rowOf (s .table)) (treeLines (s .table));
       balances = map (balanceOf (s .table) (s .base) opening) chargeAccounts;
     }
+
+-- .. of the one that these events leave
+unfoldable pub treeAfter : List Event → Tree
+treeAfter es = treeFrom (run treeOpening es .after)
 
 -- so many figures that are 0, and so many accounts that opened with 0 and got nothing
 abbrev none : ℕ → List ℤ
