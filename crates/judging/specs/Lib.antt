@@ -1,4 +1,3 @@
 -- What the calls on the queues ask of their callers, and parts of what they give and leave.
 pub mod Asked
-pub mod Met
 pub mod Reveal

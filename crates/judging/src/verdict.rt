@@ -3,33 +3,17 @@ ghost use mathlib.Core.Path.{_≡_};
 ghost use Rattle.rules.specs.Sound.{IsGiven, IsLiveAction, Sound};
 ghost use Rattle.rules.specs.Kind.{IsKind};
 ghost use Rattle.rules.specs.Verdict.{meets, isMetBy, isMetInQueue, verdictOf};
-ghost use Rattle.rules.specs.Card.{IsAccount};
 ghost use Rattle.rows.specs.Row.{HasRow};
-ghost use Rattle.judging.specs.Met.{isMetAt};
 use rows::entries::entry_number;
 use rows::entries::queue_length;
-use rows::fields::has_read;
-use rows::fields::has_written;
 use rows::fields::parent;
 use rules::Found;
 use rules::queue::FAILED;
 use rules::queue::FIRST_POSITION;
 use rules::queue::GOOD;
 use rules::store::ACCOUNTS;
+use validation::ahead::is_read_ahead;
 use validation::verdict::clash_of;
-
-// Account k is in m's write set and in n's read set.
-fn is_met_at(table: &[u64], n: u64, m: u64, k: u64) -> bool
-    requires { ⌜ HasRow (now table) n ⌝ }
-    requires { ⌜ HasRow (now table) m ⌝ }
-    requires { ⌜ IsAccount k ⌝ }
-    ensures { λ r. ⌜ r ≡ isMetAt (now (table .entry)) n m k ⌝ }
-{
-    if !has_written(table, m, k) {
-        return false;
-    }
-    has_read(table, n, k)
-}
 
 fn meets(table: &[u64], n: u64, m: u64) -> bool
     requires { ⌜ HasRow (now table) n ⌝ }
@@ -37,7 +21,7 @@ fn meets(table: &[u64], n: u64, m: u64) -> bool
     ensures { λ r. ⌜ r ≡ meets (now (table .entry)) n m ⌝ }
 {
     for k in 0..ACCOUNTS {
-        if is_met_at(table, n, m, k) {
+        if is_read_ahead(table, m, n, k) {
             return true;
         }
     }

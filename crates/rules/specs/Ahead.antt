@@ -18,7 +18,7 @@ isRival w n m =
     let elsewhere = isUnder w (parentOf w n) m && not (isAtOrBelow w n m) in
     isLive w m && elsewhere
 
--- m has read account k, which n has written
+-- m has read account k, which n has written; asked of rivals here, and in RULES 4.7 of siblings who wait
 abbrev pub isReadAhead : List ℕ → ℕ → ℕ → ℕ → Bool
 isReadAhead w n m k = hasWritten w n k && hasRead w m k
 

@@ -7,10 +7,10 @@ use lib.Dec.{eqb}
 use Rattle.rules.specs.Range.{any}
 use Rattle.rules.specs.Card.{accounts}
 use Rattle.rules.specs.declared.Found.{Found}
-use Rattle.rules.specs.Table.{parentOf, isForward, hasRead, hasWritten}
+use Rattle.rules.specs.Table.{parentOf, isForward}
 use Rattle.rules.specs.Queue.{good, failed, queue}
 use Rattle.rules.specs.Clash.{isClear, firstClash}
-use Rattle.rules.specs.Ahead.{firstAhead}
+use Rattle.rules.specs.Ahead.{isReadAhead, firstAhead}
 
 -- RULES 4.5 and 4.6: what n's commit is judged by: under rule 1 its first clash, under rule 2 the first reader ahead of it. Under
 -- rule 1 the first number is an end time, under rule 2 an action.
@@ -24,7 +24,7 @@ commitVerdict w n =
 
 -- m's write set meets n's read set
 unfoldable pub meets : List ℕ → ℕ → ℕ → Bool
-meets w n m = any (λ k. hasWritten w m k && hasRead w n k) accounts
+meets w n m = any (isReadAhead w m n) accounts
 
 -- m is a sibling of n whose writes n has read
 unfoldable pub isMetBy : List ℕ → ℕ → ℕ → Bool

@@ -30,7 +30,8 @@ fn is_rival(table: &[u64], n: u64, m: u64) -> bool
     !is_at_or_below(table, n, m)
 }
 
-fn is_read_ahead(table: &[u64], n: u64, m: u64, k: u64) -> bool
+// Also asked of those who wait, by one that enters.
+pub fn is_read_ahead(table: &[u64], n: u64, m: u64, k: u64) -> bool
     requires { ⌜ HasRow (now table) n ⌝ }
     requires { ⌜ HasRow (now table) m ⌝ }
     requires { ⌜ IsAccount k ⌝ }
