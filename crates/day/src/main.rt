@@ -1,4 +1,4 @@
 // The day program: a day file from standard input, its listing to standard output.
 fn main() {
-    dayio::print_listing(dayio::STANDARD_INPUT);
+    dayio::print_listing(libc::STDIN_FILENO);
 }

@@ -22,11 +22,12 @@ use Rattle.rules.proofs.Tree.Theorem.{balanced}
 use Rattle.report.proofs.Causes.{reportable}
 use Rattle.dayread.specs.File.{eventBytes}
 use Rattle.dayread.specs.Opening.{openingBase}
-use Rattle.listing.specs.Listing.{refusedLine}
-use Rattle.listing.specs.Buffer.{listingLength, putAt}
+use Rattle.text.specs.Text.{refusedLine}
+use Rattle.text.specs.Put.{putAt}
+use Rattle.listing.specs.Buffer.{listingLength}
 use Rattle.listing.specs.Tree.{treeText}
 use Rattle.listing.specs.Report.{textOfReport}
-use Rattle.listing.proofs.Texts.{putAt-length}
+use Rattle.text.proofs.Texts.{putAt-length}
 use Rattle.listing.proofs.Bounds.{refused-fits}
 use Rattle.listing.proofs.TreePieces.{tree-fits}
 use Rattle.listing.proofs.TreeText.{text-of-report}

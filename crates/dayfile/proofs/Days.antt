@@ -30,9 +30,10 @@ use Rattle.lists.proofs.ListRun.{no-list-cause}
 use Rattle.dayread.specs.File.{eventCount, eventBytes, eventsPlace}
 use Rattle.dayread.specs.Opening.{openingBase}
 use Rattle.dayfile.specs.Day.{dayCause, Accepts, HasAnswerRoom, dayRun, dayWords, dayLedger, dayLines, listing, Day, dayOf, runDay}
-use Rattle.listing.specs.Listing.{refusedLine}
-use Rattle.listing.specs.Buffer.{listingLength, putAt, startsFrom, listingOf}
-use Rattle.listing.proofs.Texts.{putAt-length}
+use Rattle.text.specs.Text.{refusedLine}
+use Rattle.text.specs.Put.{putAt}
+use Rattle.listing.specs.Buffer.{listingLength, startsFrom, listingOf}
+use Rattle.text.proofs.Texts.{putAt-length}
 use Rattle.listing.proofs.Bounds.{listing-fits, refused-fits}
 use Rattle.listing.proofs.AnswerLines.{listing-of-answers}
 use Rattle.dayread.proofs.Faultless.{faultless}

@@ -10,8 +10,8 @@ use Rattle.rules.specs.Ledger.{Ledger}
 use Rattle.rules.specs.Cause.{storeLengthCause}
 use Rattle.rules.specs.Tree.{treeCause}
 use Rattle.dayread.specs.Opening.{openingBase}
-use Rattle.listing.specs.Listing.{refusedLine}
-use Rattle.listing.specs.Buffer.{putAt}
+use Rattle.text.specs.Text.{refusedLine}
+use Rattle.text.specs.Put.{putAt}
 use Rattle.listing.specs.Tree.{treeText}
 use Rattle.dayfile.specs.Day.{dayCause, dayRun}
 

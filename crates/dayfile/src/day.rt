@@ -8,7 +8,6 @@ use dayread::file::file_fault;
 use dayread::opening::open_base;
 use dayread::reader::byte_at;
 use listing::lines::put_listing;
-use listing::lines::put_refused;
 use rules::cause;
 use rules::day::ANSWERS_LENGTH;
 use rules::day::CARD_COUNT_LENGTH;
@@ -20,6 +19,7 @@ use rules::store::BASE_LENGTH;
 use rules::store::SHADOW_LENGTH;
 use rules::table::BACKWARD_RULE;
 use rules::table::TABLE_LENGTH;
+use text::put_refused;
 
 pub(crate) fn day_cause(file: &[u8], table: &[u64], base: &[u8], shadow: &[u8]) -> u64
     ensures { λ r. ⌜ r

@@ -2,13 +2,13 @@
 ghost use mathlib.Core.Path.{_≡_};
 ghost use lib.ListN.{length};
 ghost use Rattle.rules.specs.Ledger.{ledgerOf};
-ghost use Rattle.listing.specs.Buffer.{IsListingBuffer, putAt};
+ghost use Rattle.text.specs.Put.{putAt};
+ghost use Rattle.listing.specs.Buffer.{IsListingBuffer};
 ghost use Rattle.listing.specs.Tree.{treeText};
 ghost use Rattle.dayfile.specs.Tree.{dayTreeCause, HasReport, dayTreeOf, runDayTree};
 use crate::day::day_cause;
 use crate::day::run_file;
 use dayread::opening::open_base;
-use listing::lines::put_refused;
 use listing::tree::put_tree;
 use report::report::report;
 use rules::cause;
@@ -17,6 +17,7 @@ use rules::day::LISTING_LENGTH;
 use rules::report::NO_LINES;
 use rules::report::REPORT_LENGTH;
 use rules::store::BASE_LENGTH;
+use text::put_refused;
 
 fn tree_cause(file: &[u8], table: &[u64], base: &[u8], shadow: &[u8], opening: &[u8]) -> u64
     ensures { λ r. ⌜ r

@@ -1,15 +1,12 @@
 // A day from a file's descriptor to standard output: what the day program, the tree program and their test share.
 // What is written stands in no contract, for the kit's write_all promises nothing of it: the programs' stdout files hold it.
 ghost use Rattle.dayio.specs.Printed.{IsListed, IsTree};
+use libc::STDOUT_FILENO;
 use rules::day::FILE_LENGTH;
 use rules::day::LISTING_LENGTH;
 use rules::store::BASE_LENGTH;
 use rules::store::SHADOW_LENGTH;
 use rules::table::TABLE_LENGTH;
-
-pub const STANDARD_INPUT: i32 = 0;
-
-pub const STANDARD_OUTPUT: i32 = 1;
 
 // Back comes the listing's length. One byte more than the longest day file has tells a file that is too long.
 pub fn print_listing(from: i32) -> usize
@@ -22,7 +19,7 @@ pub fn print_listing(from: i32) -> usize
     let mut listing = [0; LISTING_LENGTH];
     let n = io::read_full(from, &mut file);
     let k = dayfile::day::day(&file[..n], &mut table, &mut base, &mut shadow, &mut listing);
-    io::write_all(STANDARD_OUTPUT, &listing[..k]);
+    io::write_all(STDOUT_FILENO, &listing[..k]);
     k
 }
 
@@ -45,6 +42,6 @@ pub fn print_tree(from: i32) -> usize
         &mut opening,
         &mut text,
     );
-    io::write_all(STANDARD_OUTPUT, &text[..size]);
+    io::write_all(STDOUT_FILENO, &text[..size]);
     size
 }

@@ -1,10 +1,10 @@
 // Every kind of day, each from a file of data/: its name, then its listing, then its tree.
 // The expected lines are those of the second engine (`compare/run lines FILE`, `compare/run tree FILE`).
-use dayio::STANDARD_OUTPUT;
+use libc::STDOUT_FILENO;
 
 fn print_day(name: &[u8]) {
-    io::write_all(STANDARD_OUTPUT, name);
-    io::write_all(STANDARD_OUTPUT, b"\n");
+    io::write_all(STDOUT_FILENO, name);
+    io::write_all(STDOUT_FILENO, b"\n");
     let from = os::open_read(name);
     dayio::print_listing(from);
     libc::close(from);

@@ -1,6 +1,6 @@
 -- How long the lines of a listing can be: 9 letters, two numbers and a sum of 20 bytes each and a place of 4. So the lines of
 -- 1,000 answers and the last line fit 81,920 bytes. Assumes nothing.
-use Prim.Native.Nat.{ℕ, zero, suc, _+_, _*_, _^_, _≤_, _<_}
+use Prim.Native.Nat.{ℕ, zero, suc, _+_, _-_, _*_, _^_, _≤_, _<_}
 use native.Mathlib.Omega.{arith}
 use mathlib.Core.Path.{_≡_}
 use mathlib.Core.Bool.{Bool, cond}
@@ -11,9 +11,11 @@ use lib.ListN.{length, getD, length-append}
 use lib.IntN.{ℤ}
 use Rattle.rules.specs.Encoding.{mostEvents, answerLength, refusedKind, startedKind, readKind, writtenKind, committedKind, failedKind, abortedKind, addedKind, readSumKind, enteredKind, readyKind}
 use Rattle.rules.proofs.Laws.Tests.{cond-holds}
-use Rattle.listing.specs.Listing.{spaced, spacedSum, endLine, refusedLine}
+use Rattle.text.specs.Text.{decimal, spaced, refusedLine}
+use Rattle.listing.specs.Listing.{spacedSum, endLine}
 use Rattle.listing.specs.Buffer.{wordOf, hasNoNumbers, hasTwoNumbers, numbersOf, saidSum, textOf, lineOf, linesOf, listingLength}
-use Rattle.listing.proofs.Decimals.{placeDigits, decimal-bound, place-bound, signed-bound}
+use Rattle.text.proofs.Decimals.{decimal-bound, decimal-below, signed-bound}
+use Rattle.text.proofs.RefusedLine.{refused-bound}
 use Rattle.listing.proofs.Pieces.{line-length, end-length}
 
 -- what holds of both outcomes holds of the one that a test picks
@@ -75,6 +77,13 @@ unfolding textOf
 text-bound kind first second third =
     simp length-append (omega (arith, word-bound kind, numbers-bound kind first second, sum-bound kind third))
 
+-- the digits of the highest place of a day, which is mostEvents
+abbrev placeDigits : ℕ
+placeDigits = 4
+
+place-bound : (n : ℕ) → n < 10 ^ placeDigits → length (decimal n) ≤ placeDigits
+place-bound n h = decimal-below (placeDigits - 1) n (omega arith)
+
 -- the longest line: a place of 4 digits, a space, the text and a line feed
 abbrev lineLength : ℕ
 lineLength = 78
@@ -125,5 +134,4 @@ listing-fits words n starts top sub h =
     omega (arith, lines-bound words 1 0 n (omega arith), end-bound starts top sub)
 
 pub refused-fits : (fault : ℕ) → length (refusedLine fault) ≤ listingLength
-unfolding spaced spacedSum
-refused-fits fault = simp length-append (omega (arith, decimal-bound fault))
+refused-fits fault = omega (arith, refused-bound fault)

@@ -11,7 +11,8 @@ use lib.ListN.{length, length-append}
 use borrow.Author.Tests.{eq-eqb, ne-eqb}
 use Rattle.rules.specs.Amount.{amountOf}
 use Rattle.rules.specs.Encoding.{readSumKind}
-use Rattle.listing.specs.Listing.{decimal, signed, spaced, spacedSum, endLine, space, lineFeed, endWord}
+use Rattle.text.specs.Text.{decimal, signed, spaced, space, lineFeed}
+use Rattle.listing.specs.Listing.{spacedSum, endLine, endWord}
 use Rattle.listing.specs.Buffer.{wordOf, hasNoNumbers, hasTwoNumbers, numbersOf, saidSum, textOf, lineOf, lineAt, linesOf}
 
 pub spaced-one : (n : ℕ) → spaced (n ∷ []) ≡ space ∷ decimal n

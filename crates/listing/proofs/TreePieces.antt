@@ -12,11 +12,11 @@ use Rattle.rules.specs.Amount.{amountOf}
 use Rattle.rules.specs.Card.{chargeCount}
 use Rattle.rules.specs.Table.{live, committed, mostActions}
 use Rattle.rules.specs.Tree.{lineLength, balanceLength, blockPlace}
-use Rattle.listing.specs.Listing.{space, decimal, signed}
+use Rattle.text.specs.Text.{space, decimal, signed}
 use Rattle.listing.specs.Buffer.{listingLength}
 use Rattle.listing.specs.Tree.{stateWord}
 use Rattle.listing.specs.Report.{signedFrom, lineFigures, balanceFigures, lineAtPlace, balanceAtPlace, linesEvery}
-use Rattle.listing.proofs.Decimals.{decimal-bound, signed-bound}
+use Rattle.text.proofs.Decimals.{decimal-bound, signed-bound}
 use Rattle.listing.proofs.Pieces.{spaced-one}
 use Rattle.listing.proofs.Bounds.{either, Short}
 

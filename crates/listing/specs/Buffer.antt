@@ -5,7 +5,7 @@ use mathlib.Core.Bool.{Bool, cond, _||_}
 use mathlib.Core.Option.{Option, none, some}
 use mathlib.Core.List.{List, [], _∷_, _++_}
 use lib.Dec.{eqb}
-use lib.ListN.{length, take, drop, getD}
+use lib.ListN.{length, getD}
 use lib.IntN.{ℤ}
 use Rattle.rules.specs.declared.Answer.the-variants.{Started, Read, ReadSum, Written, Added, Entered, Ready, JudgedFailed, Committed, Failed, Aborted, Refused}
 use Rattle.rules.specs.Kind.{topKind, subKind}
@@ -13,7 +13,8 @@ use Rattle.rules.specs.Amount.{amountOf}
 use Rattle.rules.specs.Table.{counter}
 use Rattle.rules.specs.Answer.{said}
 use Rattle.rules.specs.Encoding.{mostEvents, answerLength, refusedKind, startedKind, readKind, writtenKind, committedKind, failedKind, abortedKind, addedKind, readSumKind, enteredKind, readyKind}
-use Rattle.listing.specs.Listing.{space, lineFeed, decimal, spaced, spacedSum, endLine}
+use Rattle.text.specs.Text.{space, lineFeed, decimal, spaced}
+use Rattle.listing.specs.Listing.{spacedSum, endLine}
 
 -- RULES 11.4: the bytes of the buffer
 abbrev pub listingLength : ℕ
@@ -25,10 +26,6 @@ IsListingBuffer buffer = length buffer ≡ listingLength
 -- a buffer of words has this many answers, and they are no more than a day has events
 abbrev pub HasAnswers : List ℕ → ℕ → Type 0
 HasAnswers words count = (count ≤ mostEvents) × (answerLength * count ≤ length words)
-
--- the buffer with a text put at a place
-unfoldable pub putAt : List ℕ → ℕ → List ℕ → List ℕ
-putAt buffer at text = take at buffer ++ text ++ drop (at + length text) buffer
 
 -- RULES 5: the word of an answer, by its kind
 unfoldable pub wordOf : ℕ → List ℕ

@@ -7,7 +7,7 @@ use Rattle.rules.specs.Amount.{amountOf}
 use Rattle.rules.specs.Card.{chargeCount}
 use Rattle.rules.specs.Table.{mostActions}
 use Rattle.rules.specs.Tree.{lineLength, balanceLength, blockPlace, reportLength}
-use Rattle.listing.specs.Listing.{space, lineFeed, decimal, spaced, signed}
+use Rattle.text.specs.Text.{space, lineFeed, decimal, spaced, signed}
 use Rattle.listing.specs.Tree.{stateWord}
 
 -- a report's words, with so many lines at their front

@@ -9,7 +9,7 @@ use Rattle.rules.specs.Card.{chargeAccounts}
 use Rattle.rules.specs.Table.{live, committed, stateOf}
 use Rattle.rules.specs.Answer.{said}
 use Rattle.rules.specs.Tree.{Line, treeLines, figuresOf, balanceOf}
-use Rattle.listing.specs.Listing.{space, lineFeed, decimal, spaced, signed}
+use Rattle.text.specs.Text.{space, lineFeed, decimal, spaced, signed}
 
 -- the letters of `live`
 abbrev pub liveWord : List ℕ

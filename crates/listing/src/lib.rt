@@ -1,4 +1,3 @@
 // The lines of a listing and of a tree, put into a buffer.
 pub mod lines;
-mod text;
 pub mod tree;

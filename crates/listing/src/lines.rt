@@ -2,15 +2,17 @@
 ghost use mathlib.Core.Path.{_≡_};
 ghost use Prim.Native.Nat.{_+_, _≤_};
 ghost use lib.ListN.{length};
-ghost use Rattle.listing.specs.Listing.{spaced, endLine, refusedLine};
-ghost use Rattle.listing.specs.Buffer.{IsListingBuffer, HasAnswers, putAt, wordOf, hasNoNumbers, hasTwoNumbers, numbersOf, textOf, lineOf, linesOf, startsOf, startsFrom, listingOf};
-use crate::text::put_byte;
-use crate::text::put_number;
-use crate::text::put_signed;
-use crate::text::put_spaced;
-use crate::text::put_text;
-use rules::kind;
+ghost use Rattle.text.specs.Text.{spaced};
+ghost use Rattle.text.specs.Put.{putAt};
+ghost use Rattle.listing.specs.Listing.{endLine};
+ghost use Rattle.listing.specs.Buffer.{IsListingBuffer, HasAnswers, wordOf, hasNoNumbers, hasTwoNumbers, numbersOf, textOf, lineOf, linesOf, startsOf, startsFrom, listingOf};
 use rules::kind::ANSWER_LENGTH;
+use rules::kind;
+use text::put_byte;
+use text::put_number;
+use text::put_signed;
+use text::put_spaced;
+use text::put_text;
 
 fn put_word(out: &mut [u8], at: usize, kind: u64) -> usize
     requires { ⌜ at + length (wordOf kind) ≤ length (now out) ⌝ }
@@ -177,13 +179,4 @@ pub fn put_listing(out: &mut [u8], answers: &[u64], count: usize, table: &[u64])
     let top = table::top_counter(table);
     let sub = table::sub_counter(table);
     put_end(out, next, starts, top, sub)
-}
-
-pub fn put_refused(out: &mut [u8], fault: u64) -> usize
-    requires { ⌜ IsListingBuffer (now out) ⌝ }
-    ensures next { λ r. ⌜ r ≡ length (refusedLine fault) ⌝ }
-    ensures leaves { λ r. ⌜ now (out .exit) ≡ putAt (now (out .entry)) 0 (refusedLine fault) ⌝ }
-{
-    let said = put_answer(out, 0, kind::REFUSED, fault, 0, 0);
-    put_byte(out, said, b'\n')
 }

@@ -4,17 +4,13 @@ ghost use Prim.Native.Nat.{_+_, _≤_};
 ghost use lib.ListN.{length};
 ghost use Rattle.rules.specs.Card.{chargeCount};
 ghost use Rattle.rules.specs.Tree.{lineLength, balanceLength, blockPlace, reportLength};
-ghost use Rattle.listing.specs.Buffer.{IsListingBuffer, putAt};
+ghost use Rattle.text.specs.Put.{putAt};
+ghost use Rattle.listing.specs.Buffer.{IsListingBuffer};
 ghost use Rattle.listing.specs.Tree.{stateWord};
 ghost use Rattle.listing.specs.Report.{HasLines, signedFrom, lineAtPlace, balanceAtPlace, linesEvery, textOfReport};
-use crate::text::put_byte;
-use crate::text::put_number;
-use crate::text::put_signed;
-use crate::text::put_spaced;
-use crate::text::put_text;
+use rules::report::BALANCES;
 use rules::report::BALANCE_FIGURES;
 use rules::report::BALANCE_LENGTH;
-use rules::report::BALANCES;
 use rules::report::BLOCK_AT;
 use rules::report::FIGURES_AT;
 use rules::report::LINE_FIGURES;
@@ -24,6 +20,11 @@ use rules::report::OPENING_AT;
 use rules::report::STATE_AT;
 use rules::table::COMMITTED;
 use rules::table::LIVE;
+use text::put_byte;
+use text::put_number;
+use text::put_signed;
+use text::put_spaced;
+use text::put_text;
 
 fn put_state(out: &mut [u8], at: usize, state: u64) -> usize
     requires { ⌜ at + length (stateWord state) ≤ length (now out) ⌝ }

@@ -5,6 +5,7 @@ use mathlib.Core.Path.{_≡_, refl, sym, ap, _∙_}
 use mathlib.Core.List.{List}
 use borrow.Author.Needs.{needs}
 use Rattle.rules.specs.Ledger.{Ledger, ledgerOf}
+use Rattle.listing.proofs.Bounds.{refused-fits}
 use Rattle.dayread.proofs.Faultless.{faultless}
 use Rattle.dayfile.specs.Day.{dayCause, Accepts}
 use Rattle.dayfile.proofs.Days.{accepts, day-refused, day-runs, day-lines, day-given}
@@ -15,7 +16,7 @@ day-cause-requires : tie.Need-day-cause-requires
 day-cause-requires c κs = search needs
 
 put-refused-requires : tie.Need-put-refused-requires
-put-refused-requires c κs = search needs
+put-refused-requires c κs = omega (arith, refused-fits (c .before .before .day-cause .result))
 
 same-length : tie.Need-same-length
 same-length c = search needs

@@ -3,7 +3,7 @@ use native.Mathlib.Omega.{arith}
 use mathlib.Core.Path.{refl, sym, ap, _∙_}
 use borrow.Author.Needs.{needs}
 use lib.ListN.{length}
-use Rattle.listing.specs.Buffer.{putAt}
+use Rattle.text.specs.Put.{putAt}
 use Rattle.dayfile.proofs.DayTree.{lines-few, lines-given, words-whole, text-given}
 use Rattle.dayfile.proofs.tree.put_report.Statement.{statement}
 use Rattle.dayfile.proofs.tree.put_report.Tie as tie

@@ -1,9 +1,11 @@
 -- `tree` meets its contract: a refused day puts its one line, any other is run and its report put. Assumes nothing.
 use Prim.Native.Nat.{ℕ}
+use native.Mathlib.Omega.{arith}
 use mathlib.Core.Path.{_≡_, refl, sym, _∙_}
 use mathlib.Core.List.{List}
 use borrow.Author.Needs.{needs}
 use Rattle.rules.specs.Ledger.{Ledger, ledgerOf}
+use Rattle.listing.proofs.Bounds.{refused-fits}
 use Rattle.dayfile.specs.Day.{Accepts}
 use Rattle.dayfile.specs.Tree.{dayTreeCause}
 use Rattle.dayfile.proofs.Days.{accepts}
@@ -15,7 +17,7 @@ tree-cause-requires : tie.Need-tree-cause-requires
 tree-cause-requires c κs = search needs
 
 put-refused-requires : tie.Need-put-refused-requires
-put-refused-requires c κs = search needs
+put-refused-requires c κs = omega (arith, refused-fits (c .before .before .tree-cause .result))
 
 same-length : tie.Need-same-length
 same-length c = search needs

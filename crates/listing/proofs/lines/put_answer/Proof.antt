@@ -4,7 +4,7 @@ use native.Mathlib.Omega.{arith}
 use mathlib.Core.Path.{ap}
 use lib.ListN.{length, length-append}
 use borrow.Author.Needs.{needs}
-use Rattle.listing.proofs.Texts.{put-then}
+use Rattle.text.proofs.Texts.{put-then}
 use Rattle.listing.proofs.Pieces.{text-sum, text-plain, numbers-fit}
 use Rattle.listing.proofs.lines.put_answer.Statement.{statement}
 use Rattle.listing.proofs.lines.put_answer.Tie as tie

@@ -2,7 +2,7 @@
 -- nothing.
 use native.Mathlib.Omega.{arith}
 use borrow.Author.Needs.{needs}
-use Rattle.listing.proofs.Texts.{put-then}
+use Rattle.text.proofs.Texts.{put-then}
 use Rattle.listing.proofs.Pieces.{spaced-three, end-length}
 use Rattle.listing.proofs.lines.put_end.Statement.{statement}
 use Rattle.listing.proofs.lines.put_end.Tie as tie

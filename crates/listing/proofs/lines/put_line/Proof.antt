@@ -3,7 +3,7 @@
 use native.Mathlib.Omega.{arith}
 use borrow.Author.Needs.{needs}
 use Rattle.listing.specs.Buffer.{lineOf}
-use Rattle.listing.proofs.Texts.{put-then}
+use Rattle.text.proofs.Texts.{put-then}
 use Rattle.listing.proofs.Pieces.{line-length}
 use Rattle.listing.proofs.lines.put_line.Statement.{statement}
 use Rattle.listing.proofs.lines.put_line.Tie as tie

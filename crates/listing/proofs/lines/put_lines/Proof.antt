@@ -6,8 +6,9 @@ use native.Mathlib.Omega.{arith}
 use mathlib.Core.Path.{_≡_, refl, sym}
 use lib.ListN.{length}
 use borrow.Author.Needs.{needs}
-use Rattle.listing.specs.Buffer.{putAt, linesOf}
-use Rattle.listing.proofs.Texts.{put-then, putAt-nothing}
+use Rattle.text.specs.Put.{putAt}
+use Rattle.listing.specs.Buffer.{linesOf}
+use Rattle.text.proofs.Texts.{put-then, putAt-nothing}
 use Rattle.listing.proofs.Pieces.{lines-next}
 use Rattle.listing.proofs.Bounds.{line-fits}
 use Rattle.listing.proofs.lines.put_lines.Statement.{statement}

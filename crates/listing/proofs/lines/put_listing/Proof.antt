@@ -5,7 +5,7 @@ use mathlib.Core.Path.{sym}
 use borrow.Author.Needs.{needs}
 use Rattle.listing.specs.Buffer.{listingOf}
 use Rattle.listing.proofs.Bounds.{listing-fits}
-use Rattle.listing.proofs.Texts.{put-front}
+use Rattle.text.proofs.Texts.{put-front}
 use Rattle.listing.proofs.lines.put_listing.Statement.{statement}
 use Rattle.listing.proofs.lines.put_listing.Tie as tie
 

@@ -4,7 +4,7 @@ use native.Mathlib.Omega.{arith}
 use mathlib.Core.Path.{sym, ap, _∙_}
 use lib.ListN.{length, length-append}
 use borrow.Author.Needs.{needs}
-use Rattle.listing.proofs.Texts.{put-then, putAt-nothing}
+use Rattle.text.proofs.Texts.{put-then, putAt-nothing}
 use Rattle.listing.proofs.Pieces.{no-numbers, two-numbers, one-number, first-fits}
 use Rattle.listing.proofs.lines.put_numbers.Statement.{statement}
 use Rattle.listing.proofs.lines.put_numbers.Tie as tie

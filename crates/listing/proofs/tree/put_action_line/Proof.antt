@@ -3,7 +3,7 @@
 use native.Mathlib.Omega.{arith}
 use borrow.Author.Needs.{needs}
 use Rattle.listing.specs.Report.{lineAtPlace}
-use Rattle.listing.proofs.Texts.{put-then}
+use Rattle.text.proofs.Texts.{put-then}
 use Rattle.listing.proofs.Pieces.{spaced-one}
 use Rattle.listing.proofs.TreePieces.{line-length}
 use Rattle.listing.proofs.tree.put_action_line.Statement.{statement}

@@ -7,9 +7,9 @@ use mathlib.Core.Path.{_≡_, refl, sym}
 use lib.ListN.{length}
 use borrow.Author.Needs.{needs}
 use Rattle.rules.specs.Tree.{lineLength}
-use Rattle.listing.specs.Buffer.{putAt}
+use Rattle.text.specs.Put.{putAt}
 use Rattle.listing.specs.Report.{lineAtPlace, linesEvery}
-use Rattle.listing.proofs.Texts.{put-then, putAt-nothing}
+use Rattle.text.proofs.Texts.{put-then, putAt-nothing}
 use Rattle.listing.proofs.TreePieces.{lines-next, next-fits}
 use Rattle.listing.proofs.tree.put_action_lines.Statement.{statement}
 use Rattle.listing.proofs.tree.put_action_lines.Tie as tie

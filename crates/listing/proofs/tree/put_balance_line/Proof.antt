@@ -3,7 +3,7 @@
 use native.Mathlib.Omega.{arith}
 use borrow.Author.Needs.{needs}
 use Rattle.listing.specs.Report.{balanceAtPlace}
-use Rattle.listing.proofs.Texts.{put-then}
+use Rattle.text.proofs.Texts.{put-then}
 use Rattle.listing.proofs.TreePieces.{balance-length}
 use Rattle.listing.proofs.tree.put_balance_line.Statement.{statement}
 use Rattle.listing.proofs.tree.put_balance_line.Tie as tie

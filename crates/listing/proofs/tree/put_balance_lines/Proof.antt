@@ -8,9 +8,9 @@ use lib.ListN.{length}
 use borrow.Author.Needs.{needs}
 use Rattle.rules.specs.Card.{chargeCount}
 use Rattle.rules.specs.Tree.{balanceLength, blockPlace}
-use Rattle.listing.specs.Buffer.{putAt}
+use Rattle.text.specs.Put.{putAt}
 use Rattle.listing.specs.Report.{balanceAtPlace, linesEvery}
-use Rattle.listing.proofs.Texts.{put-then, putAt-nothing}
+use Rattle.text.proofs.Texts.{put-then, putAt-nothing}
 use Rattle.listing.proofs.TreePieces.{lines-next, next-fits}
 use Rattle.listing.proofs.tree.put_balance_lines.Statement.{statement}
 use Rattle.listing.proofs.tree.put_balance_lines.Tie as tie

@@ -6,9 +6,9 @@ use native.Mathlib.Omega.{arith}
 use mathlib.Core.Path.{_≡_, refl, sym}
 use lib.ListN.{length}
 use borrow.Author.Needs.{needs}
-use Rattle.listing.specs.Buffer.{putAt}
+use Rattle.text.specs.Put.{putAt}
 use Rattle.listing.specs.Report.{signedFrom}
-use Rattle.listing.proofs.Texts.{put-then, putAt-nothing}
+use Rattle.text.proofs.Texts.{put-then, putAt-nothing}
 use Rattle.listing.proofs.TreePieces.{signeds-next, next-signed-fits}
 use Rattle.listing.proofs.tree.put_signeds.Statement.{statement}
 use Rattle.listing.proofs.tree.put_signeds.Tie as tie

@@ -3,7 +3,7 @@
 use native.Mathlib.Omega.{arith}
 use borrow.Author.Needs.{needs}
 use Rattle.listing.specs.Report.{textOfReport}
-use Rattle.listing.proofs.Texts.{put-front}
+use Rattle.text.proofs.Texts.{put-front}
 use Rattle.listing.proofs.TreePieces.{tree-fits}
 use Rattle.listing.proofs.tree.put_tree.Statement.{statement}
 use Rattle.listing.proofs.tree.put_tree.Tie as tie

@@ -2,10 +2,10 @@
 use mathlib.Core.Path.{_≡_, _∙_}
 use lib.ListN.{take}
 use borrow.Author.Needs.{needs}
-use Rattle.listing.specs.Listing.{decimal}
-use Rattle.listing.proofs.Decimals.{digits-are-decimal}
-use Rattle.listing.proofs.text.put_number.Statement.{statement}
-use Rattle.listing.proofs.text.put_number.Tie as tie
+use Rattle.text.specs.Text.{decimal}
+use Rattle.text.proofs.Decimals.{digits-are-decimal}
+use Rattle.text.proofs.put_number.Statement.{statement}
+use Rattle.text.proofs.put_number.Tie as tie
 
 decimal-requires : tie.Need-decimal-requires
 decimal-requires c κs = search needs

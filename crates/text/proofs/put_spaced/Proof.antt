@@ -1,8 +1,8 @@
 -- `put_spaced` meets its contract: the space is put, and the number right behind it. Assumes nothing.
 use borrow.Author.Needs.{needs}
-use Rattle.listing.proofs.Texts.{put-then}
-use Rattle.listing.proofs.text.put_spaced.Statement.{statement}
-use Rattle.listing.proofs.text.put_spaced.Tie as tie
+use Rattle.text.proofs.Texts.{put-then}
+use Rattle.text.proofs.put_spaced.Statement.{statement}
+use Rattle.text.proofs.put_spaced.Tie as tie
 
 put-byte-requires : tie.Need-put-byte-requires
 put-byte-requires c κs = search needs

@@ -4,10 +4,10 @@ use native.Mathlib.Omega.{arith}
 use mathlib.Core.Path.{ap}
 use lib.ListN.{length}
 use borrow.Author.Needs.{needs}
-use Rattle.listing.proofs.Texts.{put-then}
-use Rattle.listing.proofs.Decimals.{signed-low, signed-high}
-use Rattle.listing.proofs.text.put_signed.Statement.{statement}
-use Rattle.listing.proofs.text.put_signed.Tie as tie
+use Rattle.text.proofs.Texts.{put-then}
+use Rattle.text.proofs.Decimals.{signed-low, signed-high}
+use Rattle.text.proofs.put_signed.Statement.{statement}
+use Rattle.text.proofs.put_signed.Tie as tie
 
 put-number-requires : tie.Need-put-number-requires
 put-number-requires c κs =

@@ -1,6 +1,6 @@
 -- A number in decimal: the digits that `io::decimal` writes are the definition's, and how many there can be; and the same of a
 -- sum with its sign. Assumes nothing.
-use Prim.Native.Nat.{ℕ, zero, suc, _-_, _/_, _%_, _^_, _≤_, _<_}
+use Prim.Native.Nat.{ℕ, zero, suc, _+_, _-_, _/_, _%_, _^_, _≤_, _<_}
 use native.Mathlib.Nat.{one-le-pow, pow-suc, pow-le-pow-right}
 use native.Mathlib.Decide.{decLe}
 use native.Mathlib.Omega.{arith}
@@ -8,14 +8,14 @@ use mathlib.Core.Path.{_≡_}
 use mathlib.Core.List.{List, _∷_}
 use lib.Dec.{ltb}
 use lib.ListN.{length, length-append}
-use lib.IntN.{ℤ, pos, negsuc}
+use lib.IntN.{ℤ, pos, negsuc, natAbs}
 use borrow.Author.Tests.{ltb-false, lt-ltb, le-ltb}
 use Rattle.rules.specs.Amount.{amountOf}
 use Rattle.rules.proofs.Laws.Tests.{cond-holds}
 use Rattle.rules.proofs.Laws.Integers.{dn}
 use Rattle.rules.proofs.Laws.Amounts.{amount-of-any, amount-holds}
 use Rattle.io.specs.Digits.{digits, Fewest}
-use Rattle.listing.specs.Listing.{minus, decimalWithin, decimal, signed, mostDigits}
+use Rattle.text.specs.Text.{minus, decimalWithin, decimal, signed, mostDigits}
 
 -- the fewest digits that hold a number are the definition's
 fewest-digits : (places r n : ℕ) → r ≤ places → Fewest 10 1 n r → digits 10 r n ≡ decimalWithin places n
@@ -82,12 +82,8 @@ decimalWithin-below (suc k) (suc places) n h =
 pub decimal-bound : (n : ℕ) → length (decimal n) ≤ mostDigits
 decimal-bound n = decimalWithin-length mostDigits n
 
--- the digits of the highest place of a day, which is mostEvents
-abbrev pub placeDigits : ℕ
-placeDigits = 4
-
-pub place-bound : (n : ℕ) → n < 10 ^ placeDigits → length (decimal n) ≤ placeDigits
-place-bound n h = decimalWithin-below (placeDigits - 1) mostDigits n (omega arith)
+pub decimal-below : (k n : ℕ) → n < 10 ^ suc k → length (decimal n) ≤ suc k
+decimal-below k n h = decimalWithin-below k mostDigits n h
 
 -- ---- sums
 
@@ -111,3 +107,9 @@ signed-length (negsuc n) h = omega (arith, decimalWithin-below 18 mostDigits (su
 
 pub signed-bound : (x : ℕ) → length (signed (amountOf x)) ≤ mostDigits
 signed-bound x = signed-length (amountOf x) (amount-holds (amountOf x) .0 (amount-of-any x) .1)
+
+-- a sign and the digits of the number without it
+pub signed-below : (k : ℕ) (z : ℤ) → natAbs z < 10 ^ suc k → length (signed z) ≤ suc k + 1
+unfolding signed
+signed-below k (pos n) h = omega (arith, decimal-below k n h)
+signed-below k (negsuc n) h = omega (arith, decimal-below k (suc n) h)

@@ -2,9 +2,9 @@
 -- text's, and no other byte changes. Assumes nothing.
 use mathlib.Core.Path.{refl}
 use borrow.Author.Needs.{needs}
-use Rattle.listing.proofs.CopiedText.{copied-text}
-use Rattle.listing.proofs.text.put_text.Statement.{statement}
-use Rattle.listing.proofs.text.put_text.Tie as tie
+use Rattle.text.proofs.CopiedText.{copied-text}
+use Rattle.text.proofs.put_text.Statement.{statement}
+use Rattle.text.proofs.put_text.Tie as tie
 
 add-end : tie.Need-add-end
 add-end c = search needs

@@ -9,7 +9,7 @@ use mathlib.Core.Path.{_≡_, _∙_}
 use mathlib.Core.List.{List, [], _∷_, _++_, append-assoc, append-nil}
 use lib.ListN.{length, take, drop, set, length-append, length-take, length-drop, drop-of-length-le, take-append-drop}
 use lib.Seq.{length-take-le, take-all, take-at, drop-at, drop-drop, set-split, append-snoc}
-use Rattle.listing.specs.Buffer.{putAt}
+use Rattle.text.specs.Put.{putAt}
 
 pub putAt-length :
     (buffer text : List ℕ) (at : ℕ) → at + length text ≤ length buffer → length (putAt buffer at text) ≡ length buffer

@@ -4,14 +4,16 @@ ghost use mathlib.Core.List.{[], _∷_};
 ghost use Prim.Native.Nat.{_+_, _≤_, _<_};
 ghost use lib.ListN.{length};
 ghost use Rattle.rules.specs.Amount.{amountOf};
-ghost use Rattle.listing.specs.Listing.{space, decimal, signed};
-ghost use Rattle.listing.specs.Buffer.{putAt};
+ghost use Rattle.text.specs.Text.{space, decimal, signed, hexadecimal, refusedLine};
+ghost use Rattle.text.specs.Put.{putAt};
 use rules::amount::SIGN;
 
-// The digits of the largest number.
+// The digits of the largest number, in decimal and in hexadecimal.
 const DIGITS: usize = 20;
 
-pub(crate) fn put_text(out: &mut [u8], at: usize, text: &[u8]) -> usize
+const HEX_DIGITS: usize = 16;
+
+pub fn put_text(out: &mut [u8], at: usize, text: &[u8]) -> usize
     requires { ⌜ at + length (now text) ≤ length (now out) ⌝ }
     ensures next { λ r. ⌜ r ≡ at + length (now (text .entry)) ⌝ }
     ensures leaves { λ r. ⌜ now (out .exit) ≡ putAt (now (out .entry)) at (now (text .entry)) ⌝ }
@@ -21,7 +23,7 @@ pub(crate) fn put_text(out: &mut [u8], at: usize, text: &[u8]) -> usize
     end
 }
 
-pub(crate) fn put_byte(out: &mut [u8], at: usize, b: u8) -> usize
+pub fn put_byte(out: &mut [u8], at: usize, b: u8) -> usize
     requires { ⌜ at < length (now out) ⌝ }
     ensures next { λ r. ⌜ r ≡ at + 1 ⌝ }
     ensures leaves { λ r. ⌜ now (out .exit) ≡ putAt (now (out .entry)) at (b ∷ []) ⌝ }
@@ -30,7 +32,7 @@ pub(crate) fn put_byte(out: &mut [u8], at: usize, b: u8) -> usize
     at + 1
 }
 
-pub(crate) fn put_number(out: &mut [u8], at: usize, n: u64) -> usize
+pub fn put_number(out: &mut [u8], at: usize, n: u64) -> usize
     requires { ⌜ at + length (decimal n) ≤ length (now out) ⌝ }
     ensures next { λ r. ⌜ r ≡ at + length (decimal n) ⌝ }
     ensures leaves { λ r. ⌜ now (out .exit) ≡ putAt (now (out .entry)) at (decimal n) ⌝ }
@@ -41,7 +43,7 @@ pub(crate) fn put_number(out: &mut [u8], at: usize, n: u64) -> usize
 }
 
 // The number that a word is in two's complement. From SIGN on it is 2^64 less than the word.
-pub(crate) fn put_signed(out: &mut [u8], at: usize, word: u64) -> usize
+pub fn put_signed(out: &mut [u8], at: usize, word: u64) -> usize
     requires { ⌜ at + length (signed (amountOf word)) ≤ length (now out) ⌝ }
     ensures next { λ r. ⌜ r ≡ at + length (signed (amountOf word)) ⌝ }
     ensures leaves { λ r. ⌜ now (out .exit) ≡ putAt (now (out .entry)) at (signed (amountOf word)) ⌝ }
@@ -53,12 +55,34 @@ pub(crate) fn put_signed(out: &mut [u8], at: usize, word: u64) -> usize
     put_number(out, next, SIGN - (word - SIGN))
 }
 
+// All digits of a word, zeros in front too.
+pub fn put_hexadecimal(out: &mut [u8], at: usize, word: u64) -> usize
+    requires { ⌜ at + length (hexadecimal word) ≤ length (now out) ⌝ }
+    ensures next { λ r. ⌜ r ≡ at + length (hexadecimal word) ⌝ }
+    ensures leaves { λ r. ⌜ now (out .exit) ≡ putAt (now (out .entry)) at (hexadecimal word) ⌝ }
+{
+    let mut digits = [0u8; HEX_DIGITS];
+    let k = io::hex(word, HEX_DIGITS, &mut digits);
+    put_text(out, at, &digits[..k])
+}
+
 // A space and a number.
-pub(crate) fn put_spaced(out: &mut [u8], at: usize, n: u64) -> usize
+pub fn put_spaced(out: &mut [u8], at: usize, n: u64) -> usize
     requires { ⌜ at + length (space ∷ decimal n) ≤ length (now out) ⌝ }
     ensures next { λ r. ⌜ r ≡ at + length (space ∷ decimal n) ⌝ }
     ensures leaves { λ r. ⌜ now (out .exit) ≡ putAt (now (out .entry)) at (space ∷ decimal n) ⌝ }
 {
     let next = put_byte(out, at, b' ');
     put_number(out, next, n)
+}
+
+// At the front of the buffer.
+pub fn put_refused(out: &mut [u8], fault: u64) -> usize
+    requires { ⌜ length (refusedLine fault) ≤ length (now out) ⌝ }
+    ensures next { λ r. ⌜ r ≡ length (refusedLine fault) ⌝ }
+    ensures leaves { λ r. ⌜ now (out .exit) ≡ putAt (now (out .entry)) 0 (refusedLine fault) ⌝ }
+{
+    let word = put_text(out, 0, b"refused");
+    let numbered = put_spaced(out, word, fault);
+    put_byte(out, numbered, b'\n')
 }

@@ -1,9 +1,9 @@
 -- `put_byte` meets its contract: a byte stored at a place is a text of one byte put there. Assumes nothing.
 use mathlib.Core.Path.{refl}
 use borrow.Author.Needs.{needs}
-use Rattle.listing.proofs.Texts.{putAt-byte}
-use Rattle.listing.proofs.text.put_byte.Statement.{statement}
-use Rattle.listing.proofs.text.put_byte.Tie as tie
+use Rattle.text.proofs.Texts.{putAt-byte}
+use Rattle.text.proofs.put_byte.Statement.{statement}
+use Rattle.text.proofs.put_byte.Tie as tie
 
 slice-write-out : tie.Need-slice-write-out
 slice-write-out c = search needs

@@ -5,7 +5,7 @@ use mathlib.Core.List.{List}
 use lib.ListN.{length}
 use borrow.Rule.Slice.PartMut.{midOf, putMid}
 use Rattle.rules.proofs.Laws.CopiedPart.{Copied, copied-part}
-use Rattle.listing.specs.Buffer.{putAt}
+use Rattle.text.specs.Put.{putAt}
 
 -- a text copied over as many bytes of a buffer is put there
 pub copied-text :

@@ -1,0 +1,6 @@
+-- Facts that the proofs of texts in a buffer use, here and in the crates that put them there.
+mod CopiedText
+pub mod Texts
+pub mod Decimals
+mod Hexadecimals
+pub mod RefusedLine

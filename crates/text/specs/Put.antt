@@ -1,0 +1,8 @@
+-- A text put into a buffer. Assumes nothing.
+use Prim.Native.Nat.{ℕ, _+_}
+use mathlib.Core.List.{List, _++_}
+use lib.ListN.{length, take, drop}
+
+-- the buffer with a text put at a place: no byte before it or behind it changes
+unfoldable pub putAt : List ℕ → ℕ → List ℕ → List ℕ
+putAt buffer at text = take at buffer ++ text ++ drop (at + length text) buffer
