@@ -1,4 +1,4 @@
-//! The numbers of the causes (docs/RULES.md, 8.1, 9.2, 11 and 12).
+//! The numbers of the causes (docs/RULES.md, 8.1, 9.2, 11, 12 and 14.2).
 
 pub const NONE: u64 = 0;
 pub const STORE_LENGTH: u64 = 1;
@@ -11,15 +11,15 @@ pub const NO_NUMBER: u64 = 6;
 pub const ACCOUNT: u64 = 7;
 pub const CARD_LENGTH: u64 = 8;
 pub const CHILD_LIVE: u64 = 9;
-/// Of a day file or a list of events.
+/// Of a day file, a list of events or a list of charges.
 pub const LENGTH: u64 = 10;
-/// A day file's count above its limit.
+/// A day file's count, or the bytes of a list of charges, above the limit.
 pub const COUNT: u64 = 11;
 /// A day file's opening accounts.
 pub const OPENING: u64 = 12;
-/// An add to an account that is no charge account, or a write to one that is.
+/// An add or a charge to an account that is no charge account, or a write to one that is.
 pub const KIND_OF_ACCOUNT: u64 = 13;
-/// An add that is too large, either way.
+/// An add or a charge that is too large, either way.
 pub const AMOUNT: u64 = 14;
 /// A sum that is no amount.
 pub const SUM: u64 = 15;

@@ -6,6 +6,7 @@ use crate::coverage::Coverage;
 use crate::damaged::check_damaged;
 use crate::days::check_days;
 use crate::lists::check_lists;
+use crate::same::Compared;
 use std::io::{stderr, IsTerminal, Write};
 
 /// Events for each damaged table, of which about half are under each rule, and for each day.
@@ -24,21 +25,21 @@ pub fn check(count: u64, seed: u64) -> bool {
         .and_then(|()| check_days(count / EVENTS_TO_A_DAY, seed, &mut seen));
     progress("");
     print!("{seen}");
-    match result {
-        Ok(()) => {
-            let left_out = seen.left_out();
-            if !left_out.is_empty() {
-                println!("left out: {}", left_out.join("; "));
-            }
-            println!("{} compared, 0 differ", seen.compared());
-            left_out.is_empty() || count < ENOUGH
-        }
-        Err(text) => {
-            println!("{text}");
-            println!("{} compared, 1 differs", seen.compared());
-            false
-        }
+    ended(result, seen.compared(), &seen.left_out(), count >= ENOUGH)
+}
+
+/// Says how a comparison ended; whether nothing differs and, where it was long enough, nothing was left out.
+pub fn ended(result: Compared, compared: u64, left_out: &[String], was_enough: bool) -> bool {
+    if let Err(text) = result {
+        println!("{text}");
+        println!("{compared} compared, 1 differs");
+        return false;
     }
+    if !left_out.is_empty() {
+        println!("left out: {}", left_out.join("; "));
+    }
+    println!("{compared} compared, 0 differ");
+    left_out.is_empty() || !was_enough
 }
 
 /// Blanks that clear the line before.

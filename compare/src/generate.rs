@@ -135,7 +135,7 @@ pub fn any_base(r: &mut Random) -> Vec<u8> {
     base
 }
 
-fn within(r: &mut Random, most: i64) -> i64 {
+pub fn within(r: &mut Random, most: i64) -> i64 {
     r.below(2 * most as u64 + 1) as i64 - most
 }
 

@@ -1,5 +1,6 @@
 //! compare: the library beside a second engine, by results (`check`) and by time (`bench`); or one of them alone on a
-//! day file, the second engine (`lines`, `tree`) or the library (`library`).
+//! day file, the second engine (`lines`, `tree`) or the library (`library`). And the column program beside the second
+//! engine's column (`columns`), or that alone on a list of charges (`column`).
 
 mod action;
 mod ahead;
@@ -10,6 +11,10 @@ mod calls;
 mod cases;
 mod cause;
 mod check;
+mod column;
+mod column_coverage;
+mod column_lists;
+mod columns;
 mod coverage;
 mod damage;
 mod damage_newest;
@@ -54,15 +59,18 @@ use crate::rule::Rule;
 use std::process::ExitCode;
 
 const USAGE: &str = "\
-usage: compare/run check [--events N] [--seed S]   both engines on N events in lists, and on other calls by that measure
-       compare/run bench                           times of both, put into docs/PERFORMANCE.md
-       compare/run bench PART                      times of that part alone, as verdict, printed and not put there
-       compare/run lines FILE [--rule R]           the lines of a day file, by the second engine alone
-       compare/run library FILE [--rule R]         the same by the library alone, its events as one list
-       compare/run tree FILE                       its tree, by the second engine alone
+usage: compare/run check [--events N] [--seed S]     both engines on N events in lists, and other calls by that measure
+       compare/run bench                             times of both, put into docs/PERFORMANCE.md
+       compare/run bench PART                        times of that part alone, as verdict, printed and not put there
+       compare/run lines FILE [--rule R]             the lines of a day file, by the second engine alone
+       compare/run library FILE [--rule R]           the same by the library alone, its events as one list
+       compare/run tree FILE                         its tree, by the second engine alone
+       compare/run columns [--charges N] [--seed S]  the column program and the second engine on N charges in lists
+       compare/run column FILE                       the old column of a list of charges, by the second engine alone
 R is the rule of the table, 1 or 2; a day's own is 1.";
 
 const DEFAULT_EVENTS: u64 = 100_000;
+const DEFAULT_CHARGES: u64 = 1_000_000;
 const DEFAULT_SEED: u64 = 1;
 
 /// Exit statuses.
@@ -104,6 +112,11 @@ fn run(args: &[String]) -> Result<bool, String> {
         Some("lines") => dayfile::print_lines(args.get(1).ok_or(USAGE)?, rule(args)?).map(|()| true),
         Some("library") => library_lines::print_library_lines(args.get(1).ok_or(USAGE)?, rule(args)?).map(|()| true),
         Some("tree") => dayfile::print_tree(args.get(1).ok_or(USAGE)?).map(|()| true),
+        Some("columns") => {
+            let charges = number(args, "--charges", DEFAULT_CHARGES)?;
+            columns::columns(charges, number(args, "--seed", DEFAULT_SEED)?)
+        }
+        Some("column") => column::print_column(args.get(1).ok_or(USAGE)?).map(|()| true),
         _ => Err(USAGE.to_string()),
     }
 }

@@ -1,6 +1,7 @@
 //! The smallest list that still shows a difference: parts are taken out, large ones first, while it stays.
 
 use crate::action::Place;
+use crate::column::CHARGE_BYTES;
 use crate::header::EVENT_ADD;
 use crate::model::{amount_in, Answer, Event, Ledger, AMOUNT_BYTES, STORE};
 use std::collections::HashMap;
@@ -27,8 +28,18 @@ fn smallest<T: Clone>(
     best
 }
 
+fn others<T: Clone>(all: &[T], from: usize, to: usize) -> Vec<T> {
+    [&all[..from], &all[to..]].concat()
+}
+
 pub fn smallest_bytes(bytes: &[u8], differs: impl Fn(&[u8]) -> bool) -> Vec<u8> {
-    smallest(bytes, |all, from, to| [&all[..from], &all[to..]].concat(), differs)
+    smallest(bytes, others, differs)
+}
+
+/// Of a list of charges, the last of which may be cut.
+pub fn smallest_charges(list: &[u8], differs: impl Fn(&[u8]) -> bool) -> Vec<u8> {
+    let charges: Vec<Vec<u8>> = list.chunks(CHARGE_BYTES).map(<[u8]>::to_vec).collect();
+    smallest(&charges, others, |part| differs(&part.concat())).concat()
 }
 
 /// Of a list that begins on a new ledger.

@@ -1,9 +1,10 @@
--- A number in hexadecimal: with a width of 16, `io::hex` writes the definition's digits. Assumes nothing.
-use Prim.Native.Nat.{ℕ, _-_, _^_, _≤_, _<_}
+-- A number in hexadecimal: with a width of 16, `io::hex` writes the definition's digits, and there are 16. Assumes nothing.
+use Prim.Native.Nat.{ℕ, zero, suc, _-_, _/_, _^_, _≤_, _<_}
 use native.Mathlib.Nat.{pow-le-pow-right}
 use native.Mathlib.Decide.{decLe}
 use native.Mathlib.Omega.{arith}
-use mathlib.Core.Path.{_≡_}
+use mathlib.Core.Path.{_≡_, refl}
+use lib.ListN.{length, length-append}
 use Rattle.io.specs.Digits.{digits, Fewest}
 use Rattle.text.specs.Text.{hexBase, hexDigits, hexadecimal}
 
@@ -21,3 +22,11 @@ no-more-digits r n h f = go (decLe r hexDigits)
 pub digits-are-hexadecimal : (r n : ℕ) → n < 2 ^ 64 → Fewest hexBase hexDigits n r → digits hexBase r n ≡ hexadecimal n
 unfolding hexadecimal
 digits-are-hexadecimal r n h f = rw (no-more-digits r n h f)
+
+digits-length : (b k n : ℕ) → length (digits b k n) ≡ k
+digits-length b zero n = refl
+digits-length b (suc k) n = simp length-append (omega (arith, digits-length b k (n / b)))
+
+pub hexadecimal-length : (n : ℕ) → length (hexadecimal n) ≡ hexDigits
+unfolding hexadecimal
+hexadecimal-length n = digits-length hexBase hexDigits n

@@ -2,5 +2,5 @@
 mod CopiedText
 pub mod Texts
 pub mod Decimals
-mod Hexadecimals
+pub mod Hexadecimals
 pub mod RefusedLine

@@ -30,9 +30,9 @@ returns c =
     let numbered = c .before .before .before .before .before .before in
     let word = numbered .before .before .before .before in
     let put =
-      put-then _ _ _ _
-      (put-then _ _ _ _ (word .put-text .ensures) (numbered .put-spaced .ensures))
-      (c .before .before .put-byte .ensures)
+    put-then _ _ _ _
+    (put-then _ _ _ _ (word .put-text .ensures) (numbered .put-spaced .ensures))
+    (c .before .before .put-byte .ensures)
     in
     (rw zero-add at (put .0), put .1)
 
