@@ -42,7 +42,7 @@ first-good :
 unfolding chargesFault
 first-good list i n = go (eqb (chargeFault list i) 0) refl
   where
-    go : (b : Bool) → eqb (chargeFault list i) 0 ≡ b → cond (not b) (chargeFault list i) (chargesFault list (suc i) n) ≡ 0
+    go : (b : Bool) → eqb (chargeFault list i) 0 ≡ b → cond b (chargesFault list (suc i) n) (chargeFault list i) ≡ 0
         → (chargeFault list i ≡ 0) × (chargesFault list (suc i) n ≡ 0)
     go true good none = (eqb-true (chargeFault list i) 0 good, none)
     go false bad none = absurd (eqb-false (chargeFault list i) 0 bad none)

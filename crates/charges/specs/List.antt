@@ -1,7 +1,7 @@
 -- RULES 14.1 and 14.2: a list of charges, and what may be wrong with it. Assumes nothing.
 use Prim.Native.Nat.{ℕ, zero, suc, _+_, _*_, _/_, _%_, _≤_}
 use mathlib.Core.Path.{_≡_}
-use mathlib.Core.Bool.{Bool, true, not, _&&_}
+use mathlib.Core.Bool.{Bool, not, cond, _&&_}
 use mathlib.Core.List.{List, [], _∷_}
 use lib.Dec.{ltb, eqb}
 use lib.ListN.{length, getD}
@@ -71,19 +71,16 @@ chargeFault list i =
 unfoldable pub chargesFault : List ℕ → ℕ → ℕ → ℕ
 chargesFault list i zero = 0
 chargesFault list i (suc n) =
-    firstCause
-    (record { number = chargeFault list i; applies = not (eqb (chargeFault list i) 0) }
-    ∷ record { number = chargesFault list (suc i) n; applies = true }
-    ∷ [])
+    cond (eqb (chargeFault list i) 0)
+    (chargesFault list (suc i) n)
+    (chargeFault list i)
 
--- the list's fault, 0 where it has none
+-- the list's fault, 0 where it has none: its length is asked before its charges
 unfoldable pub listFault : List ℕ → ℕ
 listFault list =
-    firstCause
-    (record { number = countFault; applies = ltb listLength (length list) }
-    ∷ record { number = lengthFault; applies = not (eqb (length list % chargeLength) 0) }
-    ∷ record { number = chargesFault list 0 (chargesIn list); applies = true }
-    ∷ [])
+    cond (ltb listLength (length list)) countFault
+    (cond (not (eqb (length list % chargeLength) 0)) lengthFault
+    (chargesFault list 0 (chargesIn list)))
 
 -- a list that is not refused
 pub record IsFaultless (list : List ℕ) : Type 0 where

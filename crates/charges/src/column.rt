@@ -4,17 +4,13 @@ ghost use Prim.Native.Nat.{_+_, _≤_};
 ghost use lib.ListN.{length};
 ghost use Rattle.rules.specs.Card.{chargeCount};
 ghost use Rattle.text.specs.Put.{putAt};
-ghost use Rattle.charges.specs.List.{HasCharges, IsFaultless, centsCharged};
-ghost use Rattle.charges.specs.Running.{SumFits, chargedBy, runningOf, IsNumber};
+ghost use Rattle.charges.specs.List.{IsFaultless};
+ghost use Rattle.charges.specs.Running.{IsNumber};
 ghost use Rattle.charges.specs.Column.{centsText, oldText, accountLine, accountLines, columnText, IsColumnBuffer};
 use crate::cents::word_of;
-use crate::list::CHARGE_LENGTH;
-use crate::list::account_at;
-use crate::list::cents_at;
 use crate::list::list_fault;
 use crate::running::Running;
-use crate::running::charged;
-use crate::running::uncharged;
+use crate::running::running_of;
 use rules::cause;
 use rules::store::ACCOUNTS;
 use rules::store::FIRST_CHARGE;
@@ -31,30 +27,6 @@ const LINE_LENGTH: usize = 32;
 const LINES: usize = (ACCOUNTS - FIRST_CHARGE) as usize;
 
 pub const COLUMN_LENGTH: usize = LINES * LINE_LENGTH;
-
-// A charge to another account leaves the record as it is.
-fn charged_by(list: &[u8], account: u64, i: usize, running: Running) -> Running
-    requires { ⌜ HasCharges (now list) (i + 1) ⌝ }
-    requires { ⌜ SumFits running (centsCharged (now list) i) ⌝ }
-    ensures { λ r. ⌜ r ≡ chargedBy (now (list .entry)) account i running ⌝ }
-{
-    if account_at(list, i) == account {
-        return charged(running, cents_at(list, i));
-    }
-    running
-}
-
-fn running_of(list: &[u8], account: u64) -> Running
-    requires { ⌜ IsFaultless (now list) ⌝ }
-    ensures { λ r. ⌜ r ≡ runningOf (now (list .entry)) account ⌝ }
-{
-    let count = list.len() / CHARGE_LENGTH;
-    let mut running = uncharged();
-    for i in 0..count {
-        running = charged_by(list, account, i, running);
-    }
-    running
-}
 
 // A space and the record's cents.
 fn put_cents(out: &mut [u8], at: usize, running: Running) -> usize

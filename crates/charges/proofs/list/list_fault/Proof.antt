@@ -1,5 +1,5 @@
--- `list_fault` meets its contract: the tests stand in the order of `listFault`'s list, and the fault of the charges is the last in
--- it. Assumes nothing.
+-- `list_fault` meets its contract: the tests stand in the order of `listFault`'s, and the fault of the charges is what is left
+-- when none of them applies. Assumes nothing.
 use borrow.Author.Needs.{needs}
 use borrow.Author.Tests.{lt-ltb, le-ltb, eq-eqb, ne-eqb}
 use Rattle.charges.specs.List.{listFault}

@@ -8,8 +8,8 @@ use Rattle.charges.specs.List.{chargesIn}
 use Rattle.charges.specs.Running.{runningAfter}
 use Rattle.charges.proofs.Faults.{good}
 use Rattle.charges.proofs.Totals.{charge-fits}
-use Rattle.charges.proofs.column.running_of.Statement.{statement}
-use Rattle.charges.proofs.column.running_of.Tie as tie
+use Rattle.charges.proofs.running.running_of.Statement.{statement}
+use Rattle.charges.proofs.running.running_of.Tie as tie
 
 abbrev Inv-loop : tie.InvT-loop
 Inv-loop list account count running₀ i₀ running i = (i ≤ count) × (running ≡ runningAfter list account i)

@@ -3,8 +3,8 @@ use borrow.Author.Needs.{needs}
 use borrow.Author.Tests.{eq-eqb, ne-eqb}
 use Rattle.charges.specs.Running.{chargedBy}
 use Rattle.charges.proofs.SignedWords.{held}
-use Rattle.charges.proofs.column.charged_by.Statement.{statement}
-use Rattle.charges.proofs.column.charged_by.Tie as tie
+use Rattle.charges.proofs.running.charged_by.Statement.{statement}
+use Rattle.charges.proofs.running.charged_by.Tie as tie
 
 account-at-requires : tie.Need-account-at-requires
 account-at-requires c κs = search needs
