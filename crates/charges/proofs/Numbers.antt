@@ -67,6 +67,11 @@ round-finite f s a b c d B D less bound =
 
 -- ---- what a charge adds: a hundredth of 1,000,000 at most
 
+-- 100 is 25 * 2^2
+pub hundred-is : hundred ≡ fin false 25 (pos 2)
+unfolding hundred ofInt
+hundred-is = refl
+
 -- n as a float is n, so that its quotient is that of n
 quotient-finite : (s : Bool) (n : ℕ) → n ≤ mostAdded → T (finite (div binary64 (round binary64 s n 1) hundred))
 unfolding div
@@ -76,11 +81,12 @@ quotient-finite s n few = go (round binary64 s n 1) (round-whole binary64 s n (o
     go nan value = absurd value
     go (inf t) value = absurd value
     go (fin t m e) value =
-        round-finite binary64 (unlike t false) (m * up e * down (pos 2)) (25 * up (pos 2) * down e) 10000 1
+        rw hundred-is
+        (round-finite binary64 (unlike t false) (m * up e * down (pos 2)) (25 * up (pos 2) * down e) 10000 1
         (omega (arith, down-pos e))
         (lit< tt)
         (omega (arith, value .1, mul-le-mul-right (down e) few))
-        (unfold round in tt)
+        (unfold round in tt))
 
 pub added-finite : (c : ℤ) → isAddable c ≡ true → T (finite (div binary64 (ofInt binary64 c) hundred))
 unfolding ofInt isAddable

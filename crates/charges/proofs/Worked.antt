@@ -5,10 +5,10 @@ use lib.Ieee.{add, div, ofInt, toBits}
 use Rattle.rules.specs.Amount.{amountOf, amountWord, isAddable, lowFirst, bytesLowFirst}
 use Rattle.text.specs.Text.{decimalWithin, signed, hexadecimal}
 use Rattle.charges.specs.List.{chargeFault, chargesFault, listFault}
-use Rattle.charges.specs.Running.{chargedOf, chargedBy, runningAfter}
+use Rattle.charges.specs.Running.{hundred, chargedOf, chargedBy, runningAfter}
 use Rattle.charges.specs.Column.{centsText, oldText, accountLine, accountLines, columnText}
 use Rattle.charges.specs.Worked.{listOf, totalsText, lists1To6, totals1To6, totals9, lists10To16, faults10To16, Print}
 
 pub worked-lists : Print
-unfolding flatMap add div ofInt toBits amountOf amountWord isAddable lowFirst bytesLowFirst decimalWithin signed hexadecimal chargeFault chargesFault listFault chargedOf chargedBy runningAfter centsText oldText accountLine accountLines columnText listOf totalsText lists1To6 totals1To6 totals9 lists10To16 faults10To16
+unfolding flatMap add div ofInt toBits amountOf amountWord isAddable lowFirst bytesLowFirst decimalWithin signed hexadecimal chargeFault chargesFault listFault hundred chargedOf chargedBy runningAfter centsText oldText accountLine accountLines columnText listOf totalsText lists1To6 totals1To6 totals9 lists10To16 faults10To16
 worked-lists = record { figures = refl; empty = refl; faults = refl }

@@ -28,6 +28,7 @@ unfoldable pub accountLines : List ℕ → ℕ → List ℕ
 accountLines list zero = []
 accountLines list (suc n) = accountLines list n ++ accountLine (firstCharge + n) (runningOf list (firstCharge + n))
 
+-- the text of a list: the lines of all charge accounts, or the one of a list that is refused
 unfoldable pub columnText : List ℕ → List ℕ
 columnText list = cond (eqb (listFault list) 0) (accountLines list chargeCount) (refusedLine (listFault list))
 

@@ -11,9 +11,9 @@ use Rattle.rules.specs.Amount.{isAmount}
 use Rattle.charges.specs.declared.running.Running.{Running}
 use Rattle.charges.specs.List.{chargesIn, accountCharged, centsCharged}
 
--- 100, which is 25 * 2^2
-abbrev pub hundred : Float
-hundred = fin false 25 (pos 2)
+-- 100 as a binary64 number
+unfoldable pub hundred : Float
+hundred = ofInt binary64 (pos 100)
 
 -- before the first charge: +0 and 0
 abbrev pub uncharged : Running

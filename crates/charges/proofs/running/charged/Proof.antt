@@ -1,4 +1,4 @@
--- `charged` meets its contract: the sum of the cents fits, and the literal's pattern is 100. Assumes nothing.
+-- `charged` meets its contract: the sum of the cents fits, and the literal is 100. Assumes nothing.
 use mathlib.Core.Path.{_≡_}
 use lib.IntN.{_+ℤ_}
 use lib.Ieee.{ofBits}
@@ -7,6 +7,7 @@ use mir.Val.{SFits, toZ, ofZ}
 use mir.Facts.{toZ-ofZ}
 use borrow.Author.Needs.{needs}
 use Rattle.charges.specs.Running.{chargedOf}
+use Rattle.charges.proofs.Numbers.{hundred-is}
 use Rattle.charges.proofs.SignedWords.{amount-fits, held}
 use Rattle.charges.proofs.running.charged.Statement.{statement}
 use Rattle.charges.proofs.running.charged.Tie as tie
@@ -37,6 +38,7 @@ returns c =
       read-back c,
       toZ-ofZ (c .before .before .before .before .fits .cents),
       toZ-ofZ (sum-fits c),
+      hundred-is,
     )
 
 pub charged-spec : {M : Type 1} → statement M
