@@ -1,11 +1,11 @@
 // Text put into a buffer, piece by piece; each function answers where the next piece goes.
 ghost use mathlib.Core.Path.{_≡_};
 ghost use mathlib.Core.List.{[], _∷_};
-ghost use Prim.Native.Nat.{_+_, _≤_, _<_};
+ghost use Prim.Native.Nat.{_+_};
 ghost use lib.ListN.{length};
 ghost use Rattle.rules.specs.Amount.{amountOf};
 ghost use Rattle.text.specs.Text.{space, decimal, signed, hexadecimal, refusedLine};
-ghost use Rattle.text.specs.Put.{putAt};
+ghost use Rattle.text.specs.Put.{putAt, TextFits};
 use rules::amount::SIGN;
 
 // The digits of the largest number, in decimal and in hexadecimal.
@@ -14,7 +14,7 @@ const DIGITS: usize = 20;
 const HEX_DIGITS: usize = 16;
 
 pub fn put_text(out: &mut [u8], at: usize, text: &[u8]) -> usize
-    requires { ⌜ at + length (now text) ≤ length (now out) ⌝ }
+    requires { ⌜ TextFits (now out) at (now text) ⌝ }
     ensures next { λ r. ⌜ r ≡ at + length (now (text .entry)) ⌝ }
     ensures leaves { λ r. ⌜ now (out .exit) ≡ putAt (now (out .entry)) at (now (text .entry)) ⌝ }
 {
@@ -24,7 +24,7 @@ pub fn put_text(out: &mut [u8], at: usize, text: &[u8]) -> usize
 }
 
 pub fn put_byte(out: &mut [u8], at: usize, b: u8) -> usize
-    requires { ⌜ at < length (now out) ⌝ }
+    requires { ⌜ TextFits (now out) at (b ∷ []) ⌝ }
     ensures next { λ r. ⌜ r ≡ at + 1 ⌝ }
     ensures leaves { λ r. ⌜ now (out .exit) ≡ putAt (now (out .entry)) at (b ∷ []) ⌝ }
 {
@@ -33,7 +33,7 @@ pub fn put_byte(out: &mut [u8], at: usize, b: u8) -> usize
 }
 
 pub fn put_number(out: &mut [u8], at: usize, n: u64) -> usize
-    requires { ⌜ at + length (decimal n) ≤ length (now out) ⌝ }
+    requires { ⌜ TextFits (now out) at (decimal n) ⌝ }
     ensures next { λ r. ⌜ r ≡ at + length (decimal n) ⌝ }
     ensures leaves { λ r. ⌜ now (out .exit) ≡ putAt (now (out .entry)) at (decimal n) ⌝ }
 {
@@ -44,7 +44,7 @@ pub fn put_number(out: &mut [u8], at: usize, n: u64) -> usize
 
 // The number that a word is in two's complement. From SIGN on it is 2^64 less than the word.
 pub fn put_signed(out: &mut [u8], at: usize, word: u64) -> usize
-    requires { ⌜ at + length (signed (amountOf word)) ≤ length (now out) ⌝ }
+    requires { ⌜ TextFits (now out) at (signed (amountOf word)) ⌝ }
     ensures next { λ r. ⌜ r ≡ at + length (signed (amountOf word)) ⌝ }
     ensures leaves { λ r. ⌜ now (out .exit) ≡ putAt (now (out .entry)) at (signed (amountOf word)) ⌝ }
 {
@@ -57,7 +57,7 @@ pub fn put_signed(out: &mut [u8], at: usize, word: u64) -> usize
 
 // All digits of a word, zeros in front too.
 pub fn put_hexadecimal(out: &mut [u8], at: usize, word: u64) -> usize
-    requires { ⌜ at + length (hexadecimal word) ≤ length (now out) ⌝ }
+    requires { ⌜ TextFits (now out) at (hexadecimal word) ⌝ }
     ensures next { λ r. ⌜ r ≡ at + length (hexadecimal word) ⌝ }
     ensures leaves { λ r. ⌜ now (out .exit) ≡ putAt (now (out .entry)) at (hexadecimal word) ⌝ }
 {
@@ -68,7 +68,7 @@ pub fn put_hexadecimal(out: &mut [u8], at: usize, word: u64) -> usize
 
 // A space and a number.
 pub fn put_spaced(out: &mut [u8], at: usize, n: u64) -> usize
-    requires { ⌜ at + length (space ∷ decimal n) ≤ length (now out) ⌝ }
+    requires { ⌜ TextFits (now out) at (space ∷ decimal n) ⌝ }
     ensures next { λ r. ⌜ r ≡ at + length (space ∷ decimal n) ⌝ }
     ensures leaves { λ r. ⌜ now (out .exit) ≡ putAt (now (out .entry)) at (space ∷ decimal n) ⌝ }
 {
@@ -78,7 +78,7 @@ pub fn put_spaced(out: &mut [u8], at: usize, n: u64) -> usize
 
 // At the front of the buffer.
 pub fn put_refused(out: &mut [u8], fault: u64) -> usize
-    requires { ⌜ length (refusedLine fault) ≤ length (now out) ⌝ }
+    requires { ⌜ TextFits (now out) 0 (refusedLine fault) ⌝ }
     ensures next { λ r. ⌜ r ≡ length (refusedLine fault) ⌝ }
     ensures leaves { λ r. ⌜ now (out .exit) ≡ putAt (now (out .entry)) 0 (refusedLine fault) ⌝ }
 {

@@ -1,4 +1,5 @@
 -- `put_byte` meets its contract: a byte stored at a place is a text of one byte put there. Assumes nothing.
+use native.Mathlib.Omega.{arith}
 use mathlib.Core.Path.{refl}
 use borrow.Author.Needs.{needs}
 use Rattle.text.proofs.Texts.{putAt-byte}
@@ -15,7 +16,7 @@ same-length : tie.Need-same-length
 same-length c = search needs
 
 returns : tie.Need-returns
-returns c = (refl, putAt-byte _ _ _ (c .pre))
+returns c = (refl, putAt-byte (c .args .out .now) (c .args .at) (c .args .b) (omega arith))
 
 pub put-byte-spec : {M : Type 1} → statement M
 put-byte-spec = tie.close (tie.spec slice-write-out add-result same-length returns)
