@@ -8,7 +8,7 @@ use lib.ListN.{length, getD}
 use lib.IntN.{ℤ}
 use Rattle.rules.specs.Card.{accountCount, isCharge}
 use Rattle.rules.specs.Amount.{amountOf, isAddable}
-use Rattle.rules.specs.Cause.{firstCause, kindCause, amountCause}
+use Rattle.rules.specs.Cause.{firstCause, lengthCause, countCause, kindCause, amountCause}
 use Rattle.amounts.specs.Word.{wordAt}
 
 -- ---- RULES 14.1: the charges
@@ -45,15 +45,7 @@ centsCharged list i = amountOf (wordCharged list i)
 pub record HasCharges (list : List ℕ) (n : ℕ) : Type 0 where
   pub inside : chargePlace n ≤ length list
 
--- ---- RULES 14.2: the faults. They have the numbers of a day file's and of an event's, and mean this here
-
--- more bytes than the longest list has
-abbrev pub countFault : ℕ
-countFault = 11
-
--- the last charge is cut short
-abbrev pub lengthFault : ℕ
-lengthFault = 10
+-- ---- RULES 14.2: the faults. They have the numbers of a day file's and of an event's
 
 -- of a charge: its account is one of the charge accounts
 abbrev pub isToCharge : List ℕ → ℕ → Bool
@@ -75,11 +67,12 @@ chargesFault list i (suc n) =
     (chargesFault list (suc i) n)
     (chargeFault list i)
 
--- the list's fault, 0 where it has none: its length is asked before its charges
+-- the list's fault, 0 where it has none: more bytes than the longest list has, then a last charge that is cut short, then the
+-- charges'
 unfoldable pub listFault : List ℕ → ℕ
 listFault list =
-    cond (ltb listLength (length list)) countFault
-    (cond (not (eqb (length list % chargeLength) 0)) lengthFault
+    cond (ltb listLength (length list)) countCause
+    (cond (not (eqb (length list % chargeLength) 0)) lengthCause
     (chargesFault list 0 (chargesIn list)))
 
 -- a list that is not refused

@@ -7,7 +7,7 @@ use lib.ListN.{length, take, drop, getD}
 use Rattle.rules.specs.Range.{upFrom, all}
 use Rattle.rules.specs.Card.{accountCount, cardLength}
 use Rattle.rules.specs.Encoding.{eventLength, mostEvents}
-use Rattle.rules.specs.Cause.{firstCause}
+use Rattle.rules.specs.Cause.{firstCause, lengthCause, countCause, openingCause}
 
 abbrev pub IsByte : ℕ → Type 0
 IsByte b = b < 256
@@ -66,23 +66,14 @@ fileLength file = eventsPlace file + eventLength * eventCount file
 abbrev pub isRising : List ℕ → ℕ → Bool
 isRising file i = ltb (accountAt file i) accountCount && (eqb i 0 || ltb (accountAt file (i - 1)) (accountAt file i))
 
-abbrev pub lengthFault : ℕ
-lengthFault = 10
-
-abbrev pub countFault : ℕ
-countFault = 11
-
-abbrev pub openingFault : ℕ
-openingFault = 12
-
 -- RULES 9.2: the first fault in the order of the list, 0 where there is none
 unfoldable pub fileFault : List ℕ → ℕ
 fileFault file =
     firstCause
-    (record { number = lengthFault; applies = eqb (length file) 0 }
-    ∷ record { number = countFault; applies = ltb mostCards (cardCount file) }
-    ∷ record { number = lengthFault; applies = ltb (length file) (eventsPlace file) }
-    ∷ record { number = countFault; applies = ltb mostEvents (eventCount file) }
-    ∷ record { number = lengthFault; applies = not (eqb (length file) (fileLength file)) }
-    ∷ record { number = openingFault; applies = not (all (isRising file) (upFrom 0 (cardCount file))) }
+    (record { number = lengthCause; applies = eqb (length file) 0 }
+    ∷ record { number = countCause; applies = ltb mostCards (cardCount file) }
+    ∷ record { number = lengthCause; applies = ltb (length file) (eventsPlace file) }
+    ∷ record { number = countCause; applies = ltb mostEvents (eventCount file) }
+    ∷ record { number = lengthCause; applies = not (eqb (length file) (fileLength file)) }
+    ∷ record { number = openingCause; applies = not (all (isRising file) (upFrom 0 (cardCount file))) }
     ∷ [])

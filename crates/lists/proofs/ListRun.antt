@@ -12,7 +12,7 @@ use lib.Seq.{length-take-le, take-at, drop-at, drop-drop}
 use lib.Dec.{eqb}
 use borrow.Author.Tests.{lt-ltb, le-ltb, eq-eqb, ne-eqb}
 use Rattle.rules.specs.Event.{Event}
-use Rattle.rules.specs.Cause.{firstCause, storeCauses}
+use Rattle.rules.specs.Cause.{firstCause, lengthCause, storeCauses}
 use Rattle.rules.specs.Ledger.{Ledger}
 use Rattle.rules.specs.Step.{Outcome, step}
 use Rattle.rules.specs.Run.{run}
@@ -21,7 +21,7 @@ use Rattle.rules.proofs.Sound.Kept.{step-keeps-sound}
 use Rattle.rules.proofs.Stores.Untouched.{lengths-kept}
 use Rattle.rules.specs.Encoding.{eventLength, eventAt, eventsFrom, eventsIn, wordsOf, answerLength, withWords, wordsOfAll}
 use Rattle.rules.proofs.Laws.Tests.{or-inr}
-use Rattle.lists.specs.Listed.{listLengthCause, isListLengthWrong, listCause, listedOf, runList}
+use Rattle.lists.specs.Listed.{isListLengthWrong, listCause, listedOf, runList}
 use Rattle.causes.proofs.Grouped.{Accepted, stores-refused, stores-passed}
 
 -- ---- one answer's words in the buffer
@@ -140,19 +140,19 @@ module _ (s : Ledger) (bytes buffer : List ℕ) where
   list-stores-cause asked given = stores-refused (s .table) (s .base) (s .shadow) _ asked given
 
   list-length-cause :
-      Accepted (s .table) (s .base) (s .shadow) → listCause s bytes buffer ≡ cond (isListLengthWrong bytes buffer) listLengthCause 0
+      Accepted (s .table) (s .base) (s .shadow) → listCause s bytes buffer ≡ cond (isListLengthWrong bytes buffer) lengthCause 0
   unfolding listCause
   list-length-cause = stores-passed (s .table) (s .base) (s .shadow) _
 
   -- the list is cut inside an event
   pub cut-cause :
-      Accepted (s .table) (s .base) (s .shadow) → length bytes % eventLength ≢ 0 → listCause s bytes buffer ≡ listLengthCause
+      Accepted (s .table) (s .base) (s .shadow) → length bytes % eventLength ≢ 0 → listCause s bytes buffer ≡ lengthCause
   cut-cause accepted cut = list-length-cause accepted ∙ rw (ne-eqb (length bytes % eventLength) 0 cut)
 
   -- the buffer has no room for its answers
   pub no-room-cause :
       Accepted (s .table) (s .base) (s .shadow) → length buffer / answerLength < length bytes / eventLength →
-      listCause s bytes buffer ≡ listLengthCause
+      listCause s bytes buffer ≡ lengthCause
   no-room-cause accepted short =
       list-length-cause accepted ∙ rw (or-inr (not (eqb (length bytes % eventLength) 0)) (lt-ltb _ _ short))
 

@@ -6,7 +6,7 @@ use lib.Dec.{eqb, ltb}
 use lib.ListN.{length, drop}
 use Rattle.rules.specs.Ledger.{Ledger}
 use Rattle.rules.specs.Encoding.{eventLength, eventsIn, answerLength, wordsOfAll}
-use Rattle.rules.specs.Cause.{firstCause, storeCauses}
+use Rattle.rules.specs.Cause.{firstCause, lengthCause, storeCauses}
 use Rattle.rules.specs.Run.{run}
 
 -- a buffer has all words of an answer, or all bytes of an event, at this place
@@ -17,9 +17,6 @@ abbrev pub EventFits : List ℕ → ℕ → Type 0
 EventFits bytes at = at + eventLength ≤ length bytes
 
 -- bytes that are no whole number of events, or a buffer too short for the answers
-abbrev pub listLengthCause : ℕ
-listLengthCause = 10
-
 abbrev pub isListLengthWrong : List ℕ → List ℕ → Bool
 isListLengthWrong bytes buffer =
     not (eqb (length bytes % eventLength) 0) || ltb (length buffer / answerLength) (length bytes / eventLength)
@@ -29,7 +26,7 @@ unfoldable pub listCause : Ledger → List ℕ → List ℕ → ℕ
 listCause s bytes buffer =
     firstCause
     (storeCauses (s .table) (s .base) (s .shadow)
-    ++ (record { number = listLengthCause; applies = isListLengthWrong bytes buffer } ∷ []))
+    ++ (record { number = lengthCause; applies = isListLengthWrong bytes buffer } ∷ []))
 
 -- what a list call gives back: its cause, the ledger after it, and the buffer of the answers
 pub record Listed : Type 0 where

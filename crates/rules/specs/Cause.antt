@@ -46,6 +46,17 @@ codeCause = 3
 abbrev pub isCodeUnknown : ℕ → Bool
 isCodeUnknown code = not (leb startCode code && leb code judgeCode)
 
+-- RULES 9.2, 11.3 and 14.2: a length or a count that is wrong, and opening accounts that are. They are asked of a day file, of a
+-- list of events and of a list of charges, each with a test of its own; no event has them
+abbrev pub lengthCause : ℕ
+lengthCause = 10
+
+abbrev pub countCause : ℕ
+countCause = 11
+
+abbrev pub openingCause : ℕ
+openingCause = 12
+
 -- RULES 11.1: an opening's alone, for a rule that is none; no event has it
 abbrev pub ruleCause : ℕ
 ruleCause = 20

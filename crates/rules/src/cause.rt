@@ -1,4 +1,4 @@
-// RULES 8.1, 9.2 and 11: the numbers of the causes; 0 stands for none.
+// RULES 8.1, 9.2, 11 and 14.2: the numbers of the causes; 0 stands for none.
 pub const NONE: u64 = 0;
 
 pub const STORE_LENGTH: u64 = 1;

@@ -6,7 +6,7 @@ use mathlib.Core.Path.{sym, _∙_}
 use borrow.Author.Needs.{needs}
 use Rattle.rules.specs.Ledger.{ledgerOf}
 use Rattle.rules.specs.Encoding.{eventsIn}
-use Rattle.lists.specs.Listed.{listLengthCause}
+use Rattle.rules.specs.Cause.{lengthCause}
 use Rattle.causes.proofs.Grouped.{Accepted, stores-accepted}
 use Rattle.lists.proofs.ListRun.{Done, none-done, one-done, all-done, list-refused, list-ran, list-stores-cause, cut-cause, no-room-cause, no-list-cause}
 use Rattle.lists.proofs.run.run.Statement.{statement}
@@ -54,7 +54,7 @@ same-length-6 c = search needs
 returns-2 : tie.Need-returns-2 Inv-loop μ-loop
 returns-2 c =
     let bytes = c .before .before .before .before .before .before .before .before .before .before .before .args .events .now in
-    list-refused _ bytes _ listLengthCause (λ z. omega arith)
+    list-refused _ bytes _ lengthCause (λ z. omega arith)
     (cut-cause _ bytes _ (accepted (c .before)) (λ z. omega (arith, c .if2 .taken)))
 
 same-length-7 : tie.Need-same-length-7 Inv-loop μ-loop
@@ -68,7 +68,7 @@ same-length-9 c = search needs
 
 returns-3 : tie.Need-returns-3 Inv-loop μ-loop
 returns-3 c =
-    list-refused _ _ _ listLengthCause (λ z. omega arith) (no-room-cause _ _ _ (accepted (c .before .before)) (c .if3 .taken))
+    list-refused _ _ _ lengthCause (λ z. omega arith) (no-room-cause _ _ _ (accepted (c .before .before)) (c .if3 .taken))
 
 loop-holds : tie.Need-loop-holds Inv-loop μ-loop
 loop-holds c = none-done _ _ _ _ (accepted (c .before .before))
