@@ -14,8 +14,8 @@ use Rattle.rules.specs.Run.{Ran, run}
 use Rattle.dayread.specs.File.{eventBytes, fileFault}
 use Rattle.dayread.specs.Opening.{openingBase}
 use Rattle.text.specs.Text.{refusedLine}
-use Rattle.listing.specs.Listing.{answerLines, lastLine}
 use Rattle.text.specs.Put.{putAt}
+use Rattle.listing.specs.Listing.{answerLines, lastLine}
 
 -- why a day isn't run, 0 where it is
 unfoldable pub dayCause : Ledger → List ℕ → ℕ
