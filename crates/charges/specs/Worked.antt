@@ -1,10 +1,13 @@
 -- RULES 14.6: worked lists, and what is printed of them. proofs/Worked.antt proves them by computing. Assumes nothing.
-use Prim.Native.Nat.{ℕ, _^_}
+use Prim.Native.Nat.{ℕ, _%_, _^_, _≤_, _<_}
 use mathlib.Core.Path.{_≡_}
+use mathlib.Core.Logic.{_≢_}
 use mathlib.Core.List.{List, [], _∷_, _++_, map, flatMap}
+use lib.ListN.{length}
 use lib.IntN.{ℤ, pos, negℤ}
 use Rattle.rules.specs.Amount.{amountLength, amountWord, bytesLowFirst}
 use Rattle.text.specs.Text.{space, lineFeed, decimal, signed, hexadecimal, refusedLine}
+use Rattle.charges.specs.List.{chargeLength, listLength}
 use Rattle.charges.specs.Column.{columnText}
 
 -- a charge as it is written there: an account and cents
@@ -82,3 +85,6 @@ pub record Print : Type 0 where
   pub figures : columnText (listOf lists1To6) ≡ totalsText totals1To6
   pub empty : columnText [] ≡ totalsText totals9
   pub faults : map columnText lists10To16 ≡ map refusedLine faults10To16
+  -- list 17, and what RULES 14.2 says of every list that is too long, and of every other that is cut, whatever stands in it
+  pub long : (list : List ℕ) → listLength < length list → columnText list ≡ refusedLine 11
+  pub cut : (list : List ℕ) → length list ≤ listLength → length list % chargeLength ≢ 0 → columnText list ≡ refusedLine 10
