@@ -1,3 +1,4 @@
 // Why a call is refused.
+#![tactic(auto)]
 mod busy;
 pub mod cause;

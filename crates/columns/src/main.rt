@@ -1,5 +1,6 @@
 // Every kind of list, each from a file of data/: its name, then its lines.
 // The expected lines are those of the second column (`compare/run column FILE`).
+#![tactic(auto)]
 use libc::STDOUT_FILENO;
 
 fn print_list(name: &[u8]) {

@@ -1,5 +1,6 @@
 // A day from a file's descriptor to standard output: what the day program, the tree program and their test share.
 // What is written stands in no contract, for the kit's write_all promises nothing of it: the programs' stdout files hold it.
+#![tactic(auto)]
 ghost use Rattle.dayio.specs.Printed.{IsListed, IsTree};
 
 use libc::STDOUT_FILENO;

@@ -1,4 +1,5 @@
 // A day file, read: its reader, its faults and its opening cards.
+#![tactic(auto)]
 pub mod file;
 pub mod opening;
 mod raw;

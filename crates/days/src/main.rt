@@ -1,5 +1,6 @@
 // Every kind of day, each from a file of data/: its name, then its listing, then its tree.
 // The expected lines are those of the second engine (`compare/run lines FILE`, `compare/run tree FILE`).
+#![tactic(auto)]
 use libc::STDOUT_FILENO;
 
 fn print_day(name: &[u8]) {

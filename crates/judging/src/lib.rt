@@ -1,4 +1,5 @@
 // The validation queue at work: verdicts settled and revealed, and those who leave.
+#![tactic(auto)]
 pub mod abort;
 pub mod enter;
 pub mod judge;

@@ -1,3 +1,4 @@
 // The lines of a listing and of a tree, put into a buffer.
+#![tactic(auto)]
 pub mod lines;
 pub mod tree;

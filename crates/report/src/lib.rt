@@ -1,4 +1,5 @@
 // The tree report of a table: why there is none, its lines, its last block.
+#![tactic(auto)]
 mod balance;
 mod cause;
 mod figures;

@@ -1,6 +1,8 @@
 // What the rules say in types and numbers: answers, versions, what is found against a commit, and every size, place and code by
 // name.
 // The definitions of specs/ are the rules themselves; nothing here computes.
+#![tactic(auto)]
+
 pub mod amount;
 pub mod cause;
 pub mod day;

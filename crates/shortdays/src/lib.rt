@@ -1,4 +1,5 @@
 // The short day at a place (RULES 15).
+#![tactic(auto)]
 mod back;
 mod candidate;
 pub mod day;

@@ -1,5 +1,6 @@
 // Short days under both rules: what the call gives at the last place of each length and behind it, and at the worked places of
 // docs/RULES.md. A line has the number of events, the rule, the place, and the events: code, number and the byte of the card.
+#![tactic(auto)]
 ghost use Rattle.std.specs.Prelude.{◌<◌};
 ghost use Rattle.enumeration.specs.ShortDay.{most_short};
 

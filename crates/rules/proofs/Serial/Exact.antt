@@ -13,9 +13,9 @@ use Rattle.rules.specs.Event.{Event}
 use Rattle.rules.specs.Serial.Effect.{Effect}
 use Rattle.rules.specs.Serial.Block.{Block}
 use Rattle.rules.specs.Serial.Told.{Told}
-use Rattle.rules.specs.Serial.Collect.{Known, collect_from, unknown, store_block}
+use Rattle.rules.specs.Serial.Collect.{Known, commits_at, collect_from, unknown, store_block}
 use Rattle.rules.specs.Serial.Schedule.{schedule_of}
-use Rattle.rules.specs.Serial.Reach.{parents_after, is_given_to, reaches_store, Act, act_of, acts_of_r, acts_in, at_place}
+use Rattle.rules.specs.Serial.Reach.{moved_up, parents_after, is_given_to, reaches_store, Act, act_of, acts_of_r, acts_in, at_place}
 use Rattle.rules.proofs.Laws.Tests.{cond_holds}
 use Rattle.rules.proofs.Serial.Acts.{store_steps_acts, none_before, none_behind, act_there, act_elsewhere}
 use Rattle.rules.proofs.Serial.Held.{held_at, Held, none_at_first, none_held, known_after, parents_after_are, held_after, none_after, own_held_after}
@@ -44,8 +44,8 @@ module _ (i : ℕ) where
   unfolding collect_from reaches_store
   held_to_end j [] its c i<j held = store_holds held
   held_to_end j (e ∷ es) [] c i<j held = store_holds held
-  held_to_end {h} {l} j (e ∷ es) (it ∷ its) c i<j held =
-      held_to_end (suc j) es its (known_after j e it c) (omega arith)
+  held_to_end {h = h} {l = l} j (e ∷ es) (it ∷ its) c i<j held =
+      held_to_end {h = moved_up (parents_after e it c.parent) (commits_at e it) h} (suc j) es its (known_after j e it c) (omega arith)
       (held_after j e it c (act_elsewhere i j e it (λ j≡i. omega arith)) held)
       ∙ rw (parents_after_are j e it c) (lost_or_followed (is_given_to it h) _ l)
 

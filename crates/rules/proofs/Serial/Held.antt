@@ -115,7 +115,8 @@ laid_all_held :
     Held i (laid_all j c ns).block (moved_up c.parent ns h) l
 unfolding laid_all moved_up
 laid_all_held j c [] held = held
-laid_all_held j c (n ∷ ns) held = laid_all_held j (laid j c n) ns (laid_held j c n held)
+laid_all_held {i = i} {h = h} {l = l} j c (n ∷ ns) held =
+    laid_all_held {i = i} {h = cond (eqb h n) (c.parent h) h} {l = l} j (laid j c n) ns (laid_held j c n held)
 
 -- ---- the collector's parents are those by which R is found
 

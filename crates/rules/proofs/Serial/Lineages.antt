@@ -100,7 +100,7 @@ module _ (h : Lineage) where
 commits_ordered : {h : Lineage} → Ordered h → (ns : List ℕ) → Ordered (with_commits h ns)
 unfolding with_commits
 commits_ordered o [] = o
-commits_ordered o (n ∷ ns) = commits_ordered (commit_ordered o n) ns
+commits_ordered {h = h} o (n ∷ ns) = commits_ordered {h = with_commit h n} (commit_ordered o n) ns
 
 pub commits_keep_starts : (h : Lineage) (ns : List ℕ) → (with_commits h ns).starts ≡ h.starts
 unfolding with_commits
@@ -125,7 +125,7 @@ pub from_ordered : {h : Lineage} → Ordered h → (es : List Event) (its : List
 unfolding lineage_from
 from_ordered o [] its = o
 from_ordered o (e ∷ es) [] = o
-from_ordered o (e ∷ es) (it ∷ its) = from_ordered (one_ordered o e it) es its
+from_ordered {h = h} o (e ∷ es) (it ∷ its) = from_ordered {h = lineage_one e it h} (one_ordered o e it) es its
 
 -- ---- R
 
