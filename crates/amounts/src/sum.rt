@@ -6,7 +6,7 @@ ghost use Rattle.amounts.specs.Sum.{value_of, sum_of, plus_word, HasRoom};
 use rules::amount::SIGN;
 
 // It stands for low + carries * 2^64 - negatives * 2^64.
-#[derive(Drop)]
+#[derive(Clone, Copy)]
 pub struct Sum {
     pub low: u64,
     pub carries: u64,

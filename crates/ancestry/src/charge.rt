@@ -11,7 +11,7 @@ use rows::fields::{parent, pending};
 use rules::table::{NO_MOVES, NO_SUM, STORE};
 use stores::place::base_place;
 
-#[derive(Drop)]
+#[derive(Clone, Copy)]
 pub struct Seen {
     // how many moves up lead to the store
     pub moves: u64,

@@ -5,7 +5,7 @@ ghost use Rattle.charges.specs.Running.{uncharged as Running·uncharged, SumFits
 
 use crate::list::{CHARGE_LENGTH, account_at, cents_at};
 
-#[derive(Drop)]
+#[derive(Clone, Copy)]
 pub struct Running {
     pub old: f64,
     pub cents: i64,

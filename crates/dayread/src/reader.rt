@@ -5,7 +5,7 @@ ghost use Rattle.dayread.specs.File.{IsByte, IsInside, number_at};
 use crate::raw::{byte, two_bytes};
 
 // RULES 9.4. The functions over it are thin: each takes it apart and calls one on the slice and the place.
-#[derive(Drop)]
+#[derive(Clone, Copy)]
 pub(crate) struct Reader<'a> {
     pub file: &'a [u8],
     pub at: usize,

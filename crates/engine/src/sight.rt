@@ -12,7 +12,7 @@ use rules::event::READ;
 use rules::store::FIRST_CHARGE;
 use rules::table::{NO_MOVES, STORE};
 
-#[derive(Drop)]
+#[derive(Clone, Copy)]
 pub struct Sight {
     pub cause: u64,
     pub holder: u64,

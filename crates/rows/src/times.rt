@@ -25,7 +25,7 @@ use crate::times::top::{
 use crate::words::put;
 use rules::table::{END_FIELD, FIRST_END, LAST_TIME, NO_END, TOP};
 
-#[derive(Drop)]
+#[derive(Clone, Copy)]
 pub enum Time {
     Top(TopTime),
     Sub(SubTime),

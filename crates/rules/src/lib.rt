@@ -15,7 +15,7 @@ pub mod table;
 
 // RULES 5: an event's answer. Its word and its numbers are listed by the definition `said` of specs/Answer.antt, and every
 // promise goes through that definition.
-#[derive(Drop)]
+#[derive(Clone, Copy)]
 pub enum Answer {
     // the number that the new action got
     Started(u64),
@@ -40,7 +40,7 @@ pub enum Answer {
 }
 
 // RULES 3.1: the nearest version of an account, seen from an action.
-#[derive(Drop)]
+#[derive(Clone, Copy)]
 pub struct Version {
     // the action whose own card it is, or the store
     pub holder: u64,
@@ -49,7 +49,7 @@ pub struct Version {
 }
 
 // RULES 4: what is found against an action that asks to commit, by the table's rule.
-#[derive(Drop)]
+#[derive(Clone, Copy)]
 pub enum Found {
     Nothing,
     // under rule 1 the first clash, its end time and its account; under rule 2 the first reader ahead, its number and the account

@@ -20,7 +20,7 @@ pub(crate) const MOST: usize = 6;
 pub const LENGTH: usize = EVENT_LENGTH * MOST;
 
 // RULES 15.4: what the call answers.
-#[derive(Drop)]
+#[derive(Clone, Copy)]
 pub enum ShortDay {
     // the list is written
     Given,

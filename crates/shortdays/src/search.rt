@@ -11,7 +11,7 @@ use dispatch::listed::{listed_cause, listed_event};
 use rules::cause::NONE;
 use rules::event::EVENT_LENGTH;
 
-#[derive(Drop)]
+#[derive(Clone, Copy)]
 pub enum Sought {
     // the list is written
     Found,

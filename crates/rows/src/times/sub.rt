@@ -12,7 +12,7 @@ use crate::fields::has_read;
 use crate::words::{get, put};
 use rules::table::{COUNTER_FIELDS, END_FIELD, HEAD, NEWEST_FIELDS, NO_END, SUB, SUB_TIME_FIELDS};
 
-#[derive(Drop)]
+#[derive(Clone, Copy)]
 pub struct SubTime(u64);
 
 pub(crate) fn sub_before(a: SubTime, b: SubTime) -> bool

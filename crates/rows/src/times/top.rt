@@ -12,7 +12,7 @@ use crate::fields::has_read;
 use crate::words::{get, put};
 use rules::table::{COUNTER_FIELDS, END_FIELD, HEAD, NEWEST_FIELDS, NO_END, READ_FIELDS, TOP};
 
-#[derive(Drop)]
+#[derive(Clone, Copy)]
 pub struct TopTime(u64);
 
 pub(crate) fn top_before(a: TopTime, b: TopTime) -> bool

@@ -1,0 +1,27 @@
+-- `is_addable` tells whether an event may add the amount that a word is. Assumes nothing.
+use Prim.Native.Nat.{ℕ, ◌-◌, ◌<◌}
+use native.Mathlib.Omega.{arith}
+use mathlib.Core.Path.{◌≡◌, sym}
+use lib.Dec.{ltb}
+use borrow.Author.Rules.{rules}
+use borrow.Author.Tests.{ltb-true, lt-ltb}
+use Rattle.rules.specs.Amount.{most_added, amount_of, is_addable}
+use Rattle.rules.proofs.Laws.Tests.{same_test}
+use Rattle.rules.proofs.Laws.Integers.{up_or_dn}
+use Rattle.rules.proofs.Laws.Amounts.{word_parts, addable_holds}
+use Rattle.amounts.specs.Sum.{word_values}
+use Rattle.amounts.proofs.limit.is_addable.Goals as goal
+
+below_zero : (x : ℕ) → x < word_values → most_added < x → ltb (word_values - 1 - x) most_added ≡ is_addable (amount_of x)
+below_zero x fits more =
+    same_test (ltb (word_values - 1 - x) most_added) (is_addable (amount_of x))
+    (λ few. (addable_holds (amount_of x)).1 (omega (arith, ltb-true, word_parts x fits, up_or_dn (amount_of x))))
+    (λ is. lt-ltb (word_values - 1 - x) most_added (omega (arith, (addable_holds (amount_of x)).0 is, word_parts x fits)))
+
+pub returns-then-word-le-MOST_ADDED : goal.returns-then-word-le-MOST_ADDED
+returns-then-word-le-MOST_ADDED c =
+    let x = c.args.word in
+    sym ((addable_holds (amount_of x)).1 (omega (arith, word_parts x (omega arith), up_or_dn (amount_of x))))
+
+pub returns : goal.returns
+returns c = below_zero c.args.word (omega arith) (omega arith)
