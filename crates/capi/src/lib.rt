@@ -122,7 +122,7 @@ pub extern "C" fn mundzavch_look<'a>(
 {
     let mut cause = NONE;
     let part = engine::look::look(table, base, shadow, number, account, &mut cause, moves);
-    bytes::copy(part, card);
+    card[..part.len()].copy_from_slice(part);
     cause
 }
 

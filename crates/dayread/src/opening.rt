@@ -32,7 +32,7 @@ fn put_opening(file: &[u8], base: &mut [u8], i: usize)
     let to = from + CARD_LENGTH;
     let at = CARD_LENGTH * account;
     let end = at + CARD_LENGTH;
-    bytes::copy(&file[from..to], &mut base[at..end]);
+    base[at..end].copy_from_slice(&file[from..to]);
 }
 
 pub fn open_base(file: &[u8], base: &mut [u8])

@@ -1,0 +1,10 @@
+-- `put_spaced` meets its contract: the space is put, and the number right behind it. Assumes nothing.
+use borrow.Author.Rules.{rules}
+use Rattle.text.proofs.Texts.{put_then}
+use Rattle.text.proofs.put_spaced.Goals as goal
+
+pub returns : goal.returns
+returns c =
+    put_then _ _ _ _
+    c.put_byte-next.ensures
+    c.put_number.ensures
