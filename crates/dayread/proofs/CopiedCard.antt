@@ -1,4 +1,4 @@
--- What `bytes::copy` of a file's card into a store leaves there. Assumes nothing.
+-- What `copy_from_slice` of a file's card into a store leaves there. Assumes nothing.
 use Prim.Native.Nat.{ℕ, ◌+◌, ◌-◌}
 use native.Mathlib.Nat.{add-sub_cancel_left}
 use native.Mathlib.Omega.{arith}
@@ -8,12 +8,12 @@ use lib.ListN.{take, drop}
 use borrow.Rule.Slice.PartMut.{mid_of, put_mid, mid_len}
 use Rattle.rules.specs.Card.{card_length, with_card}
 use Rattle.rules.proofs.Laws.Cards.{Fits}
-use Rattle.rules.proofs.Laws.CopiedPart.{Copied, copied_part}
+use Rattle.rules.proofs.Laws.CopiedPart.{copied_part}
 
 -- 32 bytes of a file copied to a place of a store put a card there
 pub copied_card :
     (file store part : List ℕ) (from at : ℕ) → Fits file from →
-    Copied (mid_of from (from + card_length - from) file) (mid_of at (at + card_length - at) store) part →
+    part ≡ mid_of from (from + card_length - from) file →
     put_mid at (at + card_length - at) store part ≡ with_card store at (take card_length (drop from file))
 unfolding with_card
 copied_card file store part from at inside copied =

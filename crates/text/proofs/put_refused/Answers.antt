@@ -21,7 +21,7 @@ pub returns : goal.returns
 returns c =
     let put =
     put_then _ _ _ _
-    (put_then _ _ _ _ c.put_text-word.ensures c.put_spaced-numbered.ensures)
-    c.put_byte.ensures
+    (put_then _ _ _ _ (c.put_text-word.ensures.next, c.put_text-word.ensures.leaves) (c.put_spaced-numbered.ensures.next, c.put_spaced-numbered.ensures.leaves))
+    (c.put_byte.ensures.next, c.put_byte.ensures.leaves)
     in
     record { next = rw zero-add at put.0; leaves = put.1 }

@@ -16,7 +16,7 @@ put_number-requires c =
 pub returns-then-word-lt-SIGN : goal.returns-then-word-lt-SIGN
 returns-then-word-lt-SIGN c =
     let a = c.args in
-    rw (signed_low a.word (omega arith)) c.put_number.ensures
+    rw (signed_low a.word (omega arith)) record { next = c.put_number.ensures.next; leaves = c.put_number.ensures.leaves }
 
 pub put_byte-next-requires : goal.put_byte-next-requires
 put_byte-next-requires c =
@@ -28,5 +28,8 @@ put_number-requires-2 c =
 
 pub returns : goal.returns
 returns c =
-    rw (signed_high c.args.word c.ranges.word.fits (omega arith))
-    (put_then _ _ _ _ c.put_byte-next.ensures c.put_number-2.ensures)
+    let put =
+        put_then _ _ _ _ (c.put_byte-next.ensures.next, c.put_byte-next.ensures.leaves)
+        (c.put_number-2.ensures.next, c.put_number-2.ensures.leaves)
+    in
+    rw (signed_high c.args.word c.ranges.word.fits (omega arith)) record { next = put.0; leaves = put.1 }

@@ -5,6 +5,9 @@ use Rattle.text.proofs.put_spaced.Goals as goal
 
 pub returns : goal.returns
 returns c =
-    put_then _ _ _ _
-    c.put_byte-next.ensures
-    c.put_number.ensures
+    let put =
+        put_then _ _ _ _
+            (c.put_byte-next.ensures.next, c.put_byte-next.ensures.leaves)
+        (c.put_number.ensures.next, c.put_number.ensures.leaves)
+    in
+    record { next = put.0; leaves = put.1 }

@@ -9,4 +9,4 @@ pub returns-clause-next : goal.returns-clause-next
 returns-clause-next c = refl
 
 pub returns-clause-leaves : goal.returns-clause-leaves
-returns-clause-leaves c = copied_text _ _ _ _ c.copy.ensures.1
+returns-clause-leaves c = copied_text _ _ _ _ c.copy_from_slice.ensures.after

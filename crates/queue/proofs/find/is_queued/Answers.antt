@@ -1,0 +1,8 @@
+-- `is_queued` meets its contract: a queued action has a position. Assumes nothing.
+use mathlib.Core.Path.{sym}
+use borrow.Author.Rules.{rules}
+use Rattle.queue.proofs.Positions.{queued_position}
+use Rattle.queue.proofs.find.is_queued.Goals as goal
+
+pub returns : goal.returns
+returns c = rw c.position_of.ensures (sym (queued_position _ _ _))

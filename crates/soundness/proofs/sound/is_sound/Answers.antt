@@ -1,0 +1,40 @@
+-- `is_sound` meets its contract: each exit is decided by the clauses that led there, in the definition's order; those of each action
+-- say of live ones what the last clause's test asks. Assumes nothing.
+use borrow.Author.Rules.{rules}
+use borrow.Author.Tests.{eq-eqb, ne_eqb, le-leb, lt-leb}
+use Rattle.rules.specs.Table.{most_actions}
+use Rattle.rules.specs.Sound.{sound}
+use Rattle.rules.proofs.Laws.Negated.{failed, held}
+use Rattle.soundness.proofs.LiveActions.{live_climb, live_parents}
+use mathlib.Core.Path.{◌∙◌, sym}
+use Rattle.soundness.proofs.sound.is_sound.Goals as goal
+
+pub returns-then-table-ne-TABLE_LENGTH : goal.returns-then-table-ne-TABLE_LENGTH
+unfolding sound
+returns-then-table-ne-TABLE_LENGTH c = rw (ne_eqb _ _ c.if-table-ne-TABLE_LENGTH.true)
+
+pub returns-then-highest-gt-MOST_ACTIONS : goal.returns-then-highest-gt-MOST_ACTIONS
+unfolding sound
+returns-then-highest-gt-MOST_ACTIONS c =
+    rw (eq-eqb _ _ c.if-table-ne-TABLE_LENGTH.false, ← c.highest.ensures, lt-leb _ most_actions c.if-highest-gt-MOST_ACTIONS.true)
+
+pub returns-then-not-has_rule : goal.returns-then-not-has_rule
+unfolding sound
+returns-then-not-has_rule c =
+    rw (
+      eq-eqb _ _ c.if-table-ne-TABLE_LENGTH.false,
+      ← c.highest.ensures,
+      le-leb _ most_actions c.if-highest-gt-MOST_ACTIONS.false,
+      sym c.has_rule.ensures ∙ c.if-not-has_rule.true,
+    )
+
+pub returns-then-not-are_bounded : goal.returns-then-not-are_bounded
+unfolding sound
+returns-then-not-are_bounded c =
+    rw (
+      eq-eqb _ _ c.if-table-ne-TABLE_LENGTH.false,
+      ← c.highest.ensures,
+      le-leb _ most_actions c.if-highest-gt-MOST_ACTIONS.false,
+      sym c.has_rule.ensures ∙ c.if-not-has_rule.false,
+      sym c.are_bounded.ensures ∙ c.if-not-are_bounded.true,
+    )

@@ -1,0 +1,32 @@
+-- `all_accounts_true` meets its contract: whether all accounts pass is whether all from `k` on do, `k` the account at the loop's head,
+-- and the test decides `k` itself. Assumes nothing.
+use Prim.Native.Nat.{◌-◌}
+use native.Mathlib.Omega.{arith}
+use mathlib.Core.Path.{◌≡◌, sym, ap, ◌∙◌}
+use borrow.Author.Rules.{rules}
+use lib.ListN.{get_or}
+use Rattle.rules.specs.Range.{up_from, all}
+use Rattle.rules.specs.Card.{account_count, accounts}
+use Rattle.rules.specs.Sound.{are_newest_true}
+use Rattle.rules.proofs.Laws.Ranges.{all_left_here, all_left_next, all_left_done}
+use Rattle.rules.proofs.Laws.Negated.{failed, held}
+use Rattle.soundness.specs.Reads.{are_reads_true}
+use Rattle.soundness.proofs.AccountReads.{true_by_account}
+use Rattle.soundness.proofs.told.all_accounts_true.Goals as goal
+
+pub loop-k-init : goal.loop-k-init
+unfolding accounts
+loop-k-init c = true_by_account _ _ c.requires.store_or_live
+
+pub returns-then-not-are_reads_true : goal.returns-then-not-are_reads_true
+returns-then-not-are_reads_true c =
+    sym (c.loop-k.invariant
+    ∙ all_left_here _ _ _ c.loop-k-test.true (sym c.are_reads_true.ensures ∙ c.if-not-are_reads_true.true))
+
+pub loop-k-preserved : goal.loop-k-preserved
+loop-k-preserved c =
+    c.loop-k.invariant
+    ∙ all_left_next _ _ _ c.loop-k-test.true (sym c.are_reads_true.ensures ∙ c.if-not-are_reads_true.false)
+
+pub returns : goal.returns
+returns c = sym (c.loop-k.invariant ∙ all_left_done _ _ _ c.loop-k-test.false)

@@ -1,0 +1,28 @@
+-- `next_record` meets its contract. The loop's invariant: `next` is the next record among those with a number above `m`, and
+-- where there is one it is a child of `p`. The measure is `m`. Assumes nothing.
+use Prim.Native.Nat.{◌+◌, ◌-◌, ◌≤◌}
+use native.Mathlib.Nat.{le_refl}
+use native.Mathlib.Omega.{arith}
+use mathlib.Core.Path.{◌≡◌, refl, sym, ◌∙◌}
+use mathlib.Core.Logic.{⊎_elim}
+use borrow.Author.Rules.{rules}
+use Rattle.rules.specs.Table.{highest}
+use Rattle.rules.specs.Search.{next_after}
+use Rattle.rules.proofs.Laws.Tests.{and_left}
+use Rattle.rules.proofs.Clash.Records.{record_parent}
+use Rattle.rows.specs.Times.{number_in}
+use Rattle.validation.specs.NextRecord.{IsChildOrNone}
+use Rattle.validation.proofs.ClashSearch.{records_from, scan_start, scan_next, scan_done}
+use Rattle.validation.proofs.records.next_record.Goals as goal
+
+pub loop-m-init : goal.loop-m-init
+loop-m-init c = rw c.highest-m.ensures (le_refl _, omega arith, λ some. absurd (some refl), sym (scan_start _ _ _))
+
+pub is_next_record-requires-clause-time_under : goal.is_next_record-requires-clause-time_under
+is_next_record-requires-clause-time_under c = c.requires.time_under
+
+pub is_next_record-requires-clause-child_or_none : goal.is_next_record-requires-clause-child_or_none
+is_next_record-requires-clause-child_or_none c = c.loop-m.invariant.2
+
+pub returns : goal.returns
+returns c = rw (c.loop-m.invariant.3, c.loop-m-test.false) (scan_done _ _ _)
