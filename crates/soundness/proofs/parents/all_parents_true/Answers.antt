@@ -43,3 +43,20 @@ loop-m-preserved c =
 
 pub returns : goal.returns
 returns c = sym (c.loop-m.invariant.2 ∙ all_left_done _ _ _ c.loop-m-test.false)
+
+pub returns-then-not-are_newest_true : goal.returns-then-not-are_newest_true
+returns-then-not-are_newest_true c =
+    rw (parents_by_live _ c.requires.live_climb c.requires.live_parents, sym c.are_newest_true.ensures ∙ c.if-not-are_newest_true.true)
+
+pub loop-m-init : goal.loop-m-init
+unfolding actions
+loop-m-init c =
+    let store = sym c.are_newest_true.ensures ∙ c.if-not-are_newest_true.false in (
+      omega arith,
+      one_passes _ (replicate (most_actions + 1) false) (none_passed _ (most_actions + 1)) 0 store,
+      rw (parents_by_live _ c.requires.live_climb c.requires.live_parents, store, add-sub_cancel, c.highest-last.ensures),
+    )
+
+pub is_true_above-requires : goal.is_true_above-requires
+is_true_above-requires c =
+    record { live_climb = c.requires.live_climb; live_parents = c.requires.live_parents; given = omega (arith, c.highest-last.ensures); are_passed = c.loop-m.invariant.1 }

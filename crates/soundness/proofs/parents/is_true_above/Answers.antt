@@ -26,3 +26,7 @@ pub returns : goal.returns
 unfolding is_true_above
 returns c =
     rw (sym c.is_live.ensures ∙ c.if-not-is_live.false, ← c.parent-p.ensures) c.are_newest_true.ensures
+
+pub are_newest_true-requires : goal.are_newest_true-requires
+are_newest_true-requires c =
+    rw c.parent-p.ensures record { live_climb = c.requires.live_climb; store_or_live = c.requires.live_parents c.args.m (c.requires.given, sym c.is_live.ensures ∙ c.if-not-is_live.false) }

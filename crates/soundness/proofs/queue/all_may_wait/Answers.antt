@@ -18,3 +18,13 @@ loop-i-init c = all_by_position _ _ (may_wait _ _)
 
 pub returns : goal.returns
 returns c = sym (c.loop-i.invariant ∙ all_left_done _ _ _ (omega arith))
+
+pub returns-then-not-may_wait : goal.returns-then-not-may_wait
+returns-then-not-may_wait c =
+    let here = c.may_wait.ensures ∙ ap (may_wait _ _) c.entry_number.ensures in
+    sym (c.loop-i.invariant ∙ all_left_here _ _ _ (omega arith) (sym here ∙ c.if-not-may_wait.true))
+
+pub loop-i-preserved : goal.loop-i-preserved
+loop-i-preserved c =
+    let here = c.may_wait.ensures ∙ ap (may_wait _ _) c.entry_number.ensures in
+    c.loop-i.invariant ∙ all_left_next _ _ _ (omega arith) (sym here ∙ c.if-not-may_wait.false)

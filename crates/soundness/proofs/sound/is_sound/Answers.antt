@@ -38,3 +38,61 @@ returns-then-not-are_bounded c =
       sym c.has_rule.ensures ∙ c.if-not-has_rule.false,
       sym c.are_bounded.ensures ∙ c.if-not-are_bounded.true,
     )
+
+pub returns-then-not-all_sound : goal.returns-then-not-all_sound
+unfolding sound
+returns-then-not-all_sound c =
+    rw (
+      eq-eqb _ _ c.if-table-ne-TABLE_LENGTH.false,
+      ← c.highest.ensures,
+      le-leb _ most_actions c.if-highest-gt-MOST_ACTIONS.false,
+      sym c.has_rule.ensures ∙ c.if-not-has_rule.false,
+      sym c.are_bounded.ensures ∙ c.if-not-are_bounded.false,
+      sym c.all_sound.ensures ∙ c.if-not-all_sound.true,
+    )
+
+pub returns-then-not-are_sound_queues : goal.returns-then-not-are_sound_queues
+unfolding sound
+returns-then-not-are_sound_queues c =
+    rw (
+      eq-eqb _ _ c.if-table-ne-TABLE_LENGTH.false,
+      ← c.highest.ensures,
+      le-leb _ most_actions c.if-highest-gt-MOST_ACTIONS.false,
+      sym c.has_rule.ensures ∙ c.if-not-has_rule.false,
+      sym c.are_bounded.ensures ∙ c.if-not-are_bounded.false,
+      sym c.all_sound.ensures ∙ c.if-not-all_sound.false,
+      sym c.are_sound_queues.ensures ∙ c.if-not-are_sound_queues.true,
+    )
+
+pub returns-then-not-are_newest_in_time : goal.returns-then-not-are_newest_in_time
+unfolding sound
+returns-then-not-are_newest_in_time c =
+    rw (
+      eq-eqb _ _ c.if-table-ne-TABLE_LENGTH.false,
+      ← c.highest.ensures,
+      le-leb _ most_actions c.if-highest-gt-MOST_ACTIONS.false,
+      sym c.has_rule.ensures ∙ c.if-not-has_rule.false,
+      sym c.are_bounded.ensures ∙ c.if-not-are_bounded.false,
+      sym c.all_sound.ensures ∙ c.if-not-all_sound.false,
+      sym c.are_sound_queues.ensures ∙ c.if-not-are_sound_queues.false,
+      sym c.are_newest_in_time.ensures ∙ c.if-not-are_newest_in_time.true,
+    )
+
+pub all_parents_true-requires : goal.all_parents_true-requires
+all_parents_true-requires c =
+    let each = sym c.all_sound.ensures ∙ c.if-not-all_sound.false in record { live_climb = live_climb _ each c.if-table-ne-TABLE_LENGTH.false (rw c.highest.ensures at c.if-highest-gt-MOST_ACTIONS.false); live_parents = live_parents _ each }
+
+pub returns : goal.returns
+unfolding sound
+returns c =
+    rw (
+      eq-eqb _ _ c.if-table-ne-TABLE_LENGTH.false,
+      ← c.highest.ensures,
+      le-leb _ most_actions c.if-highest-gt-MOST_ACTIONS.false,
+      sym c.has_rule.ensures ∙ c.if-not-has_rule.false,
+      sym c.are_bounded.ensures ∙ c.if-not-are_bounded.false,
+      sym c.all_sound.ensures ∙ c.if-not-all_sound.false,
+      sym c.are_sound_queues.ensures ∙ c.if-not-are_sound_queues.false,
+      sym c.are_newest_in_time.ensures ∙ c.if-not-are_newest_in_time.false,
+      c.all_parents_true.ensures,
+    )

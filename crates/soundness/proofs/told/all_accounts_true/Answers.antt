@@ -30,3 +30,8 @@ loop-k-preserved c =
 
 pub returns : goal.returns
 returns c = sym (c.loop-k.invariant ∙ all_left_done _ _ _ c.loop-k-test.false)
+
+pub are_reads_true-requires : goal.are_reads_true-requires
+are_reads_true-requires c =
+    let loop = c.loop-k in
+    record { live_climb = c.requires.live_climb; has_row = search rules; account = c.loop-k-test.true; held = ap (λ e. get_or e loop.k 0) c.requires.are_held }

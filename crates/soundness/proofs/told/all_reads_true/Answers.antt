@@ -30,3 +30,7 @@ loop-m-preserved c = (
 
 pub returns : goal.returns
 returns c = sym (c.loop-m.invariant.1 ∙ all_left_done _ _ _ c.loop-m-test.false)
+
+pub is_read_true-requires : goal.is_read_true-requires
+is_read_true-requires c =
+    record { live_climb = c.requires.live_climb; has_row = c.requires.has_row; account = c.requires.account; given = omega (arith, c.highest-last.ensures); held = c.requires.held }

@@ -9,3 +9,8 @@ use Rattle.soundness.proofs.told.are_reads_true.Goals as goal
 pub returns : goal.returns
 unfolding are_reads_true
 returns c = c.all_reads_true.ensures
+
+pub returns-then-is_newest : goal.returns-then-is_newest
+returns-then-is_newest c =
+    let same = rw c.requires.held at c.is_newest.ensures in
+    sym (same_end_true _ _ _ c.requires.account (sym same ∙ c.if-is_newest.true))

@@ -35,3 +35,15 @@ returns-then-not-is_under c =
 
 pub is_told_alike-requires-clause-has_read : goal.is_told_alike-requires-clause-has_read
 is_told_alike-requires-clause-has_read c = sym c.has_read.ensures ∙ c.if-not-has_read.false
+
+pub returns : goal.returns
+unfolding is_read_true is_told_true
+returns c =
+    rw (
+      sym c.is_live.ensures ∙ c.if-not-is_live.false,
+      sym c.has_read.ensures ∙ c.if-not-has_read.false,
+      sym c.is_under.ensures ∙ c.if-not-is_under.false,
+      stale_by_ends _ _ _ c.requires.account,
+      ← c.requires.held,
+    )
+    c.is_told_alike.ensures

@@ -24,3 +24,13 @@ loop-m-smaller c = let inside = c.loop-m-test.true in omega arith
 
 pub returns : goal.returns
 returns c = sym (c.loop-m.invariant.1 ∙ among_done _ _ _ _ c.loop-m-test.false)
+
+pub returns-in-At : goal.returns-in-At
+returns-in-At c =
+    sym (c.loop-m.invariant.1 ∙ among_here _ _ _ _ c.loop-m-test.true (sym c.ahead_by.ensures ∙ c.in-At.is))
+
+pub loop-m-preserved : goal.loop-m-preserved
+loop-m-preserved c = (
+  omega (arith, c.loop-m.invariant.0),
+  c.loop-m.invariant.1 ∙ among_next _ _ _ _ c.loop-m-test.true (sym c.ahead_by.ensures ∙ c.in_default.is),
+)

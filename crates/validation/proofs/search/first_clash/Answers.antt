@@ -16,78 +16,53 @@ use Rattle.rules.proofs.Clash.Searching.{search_after, Searchable, sound_searcha
 use Rattle.rows.specs.Times.{kind_in, number_in}
 use Rattle.validation.proofs.ClashSearch.{next_child, search_from, accounts_here, accounts_next, accounts_done, first_reads}
 use Rattle.validation.proofs.search.first_clash.Goals as goal
-use Rattle.validation.proofs.search.first_clash.Goals.{After-next_record-m, Else-m-eq-NO_RECORD, Start}
-
--- the action is live, so the search finds its first clash
-searchable :
-    (c : Start invariant_accounts decreases_accounts invariant_records decreases_records) → Searchable c.args.table.now c.args.n
-searchable c = sound_searchable c.requires.sound c.args.n c.requires.live_action.0 c.requires.live_action.1
-
--- `m` is the next record after `last`
-is_next :
-    (c : After-next_record-m invariant_accounts decreases_accounts invariant_records decreases_records) →
-    let table = c.args.table.now in
-    c.next_record-m.result
-    ≡ next_after table (number_in c.records.new) (records table (parent_of table c.args.n))
-is_next c = rw c.parent-p.ensures at c.next_record-m.ensures
-
--- where there is one it is an action of the table, and ends above `last` and within the counter
-next_found :
-    (c : Else-m-eq-NO_RECORD invariant_accounts decreases_accounts invariant_records decreases_records) →
-    let start = c.before.before.before.before.before.before in
-    let table = start.args.table.now in
-    let m = c.next_record-m.result in
-    IsGiven table m
-    × (number_in c.records.new < end_time table m)
-    × (end_time table m ≤ counter table (kind_of table start.args.n))
-next_found c =
-    let start = c.before.before.before.before.before.before in
-    next_given start.requires.0 _ _ _ (is_next c.before) c.if-m-eq-NO_RECORD.false
-
--- and of the action's kind
-next_alike :
-    (c : Else-m-eq-NO_RECORD invariant_accounts decreases_accounts invariant_records decreases_records) →
-    kind_of c.args.table.now c.next_record-m.result ≡ kind_of c.args.table.now c.args.n
-next_alike c = ap kind_under (next_child _ _ _ _ (is_next c.before) c.if-m-eq-NO_RECORD.false)
 
 pub records-init : goal.records-init
-records-init c = (
-  c.first_read-last.ensures.kind,
-  rw c.first_read-last.ensures.number
-      (sym (search_after_finds _ _ (searchable c.before.before.before.before) _ (first_reads _ _ _))),
-)
+records-init c =
+    let searchable = sound_searchable c.requires.sound c.args.n c.requires.live_action.0 c.requires.live_action.1 in (
+      c.first_read-last.ensures.kind,
+      rw c.first_read-last.ensures.number (sym (search_after_finds _ _ searchable _ (first_reads _ _ _))),
+    )
 
 pub next_record-m-requires-clause-time_under : goal.next_record-m-requires-clause-time_under
 next_record-m-requires-clause-time_under c = rw c.parent-p.ensures c.records.invariant.0
 
+-- `m` is the next record after `last`, an action of the table, which ends above `last` and within the counter
 pub end_of-last-requires : goal.end_of-last-requires
-end_of-last-requires c = let found = next_found c in search rules
+end_of-last-requires c =
+    let is_next = rw c.parent-p.ensures at c.next_record-m.ensures in
+    let found = next_given c.requires.sound _ _ _ is_next c.if-m-eq-NO_RECORD.false in
+    search rules
 
 pub accounts-init : goal.accounts-init
 unfolding accounts
 accounts-init c =
-    let start = c.before.before.before.before.before.before.before.before in
+    let searchable = sound_searchable c.requires.sound c.args.n c.requires.live_action.0 c.requires.live_action.1 in
+    let is_next = rw c.parent-p.ensures at c.next_record-m.ensures in
     rw c.end_of-last.ensures.number (
       omega arith,
-      c.records.invariant.1
-          ∙ search_next _ _ (searchable start) _ _ (is_next c.before.before.before) c.if-m-eq-NO_RECORD.false,
+      c.records.invariant.1 ∙ search_next _ _ searchable _ _ is_next c.if-m-eq-NO_RECORD.false,
     )
 
 pub records-smaller : goal.records-smaller
 records-smaller c =
     let told = c.end_of-last.ensures.number in
-    let found = next_found c.before.before in
+    let is_next = rw c.parent-p.ensures at c.next_record-m.ensures in
+    let found = next_given c.requires.sound _ _ _ is_next c.if-m-eq-NO_RECORD.false in
     omega arith
 
 pub records-preserved : goal.records-preserved
 records-preserved c =
-    (
-      c.end_of-last.ensures.kind ∙ next_alike c.before.before,
+    let is_next = rw c.parent-p.ensures at c.next_record-m.ensures in (
+      c.end_of-last.ensures.kind ∙ ap kind_under (next_child _ _ _ _ is_next c.if-m-eq-NO_RECORD.false),
       c.accounts.invariant.1 ∙ accounts_done _ _ _ _ _ c.if-k-ge-ACCOUNTS.true,
     )
 
 pub is_clash-requires : goal.is_clash-requires
-is_clash-requires c = let found = next_found c.before.before.before.before in search rules
+is_clash-requires c =
+    let is_next = rw c.parent-p.ensures at c.next_record-m.ensures in
+    let found = next_given c.requires.sound _ _ _ is_next c.if-m-eq-NO_RECORD.false in
+    search rules
 
 pub accounts-preserved : goal.accounts-preserved
 accounts-preserved c = (
@@ -98,10 +73,9 @@ accounts-preserved c = (
 
 pub returns-then-m-eq-NO_RECORD : goal.returns-then-m-eq-NO_RECORD
 returns-then-m-eq-NO_RECORD c =
-    let start = c.before.before.before.before.before.before.before in
-    sym
-    (c.records.invariant.1
-    ∙ search_none _ _ (searchable start) _ _ (is_next c.before.before) c.if-m-eq-NO_RECORD.true)
+    let searchable = sound_searchable c.requires.sound c.args.n c.requires.live_action.0 c.requires.live_action.1 in
+    let is_next = rw c.parent-p.ensures at c.next_record-m.ensures in
+    sym (c.records.invariant.1 ∙ search_none _ _ searchable _ _ is_next c.if-m-eq-NO_RECORD.true)
 
 pub returns-then-is_clash : goal.returns-then-is_clash
 returns-then-is_clash c =
