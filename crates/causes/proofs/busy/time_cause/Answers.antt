@@ -1,0 +1,47 @@
+-- `time_cause` meets its contract: 19 where no end time is left for one more than those who wait, else 0. A sound queue is short,
+-- so one more than its length fits a word. Assumes nothing.
+use Prim.Native.Nat.{ℕ, ◌+◌}
+use native.Mathlib.Omega.{arith}
+use mathlib.Core.Path.{◌≡◌, sym, ◌∙◌}
+use mathlib.Core.Bool.{Bool, true, false, not}
+use borrow.Author.Rules.{rules}
+use borrow.Author.Tests.{leb-true, leb-false, le-leb, lt-leb}
+use lib.Dec.{leb}
+use Rattle.rules.specs.Table.{last_time}
+use Rattle.queue.proofs.OwnQueue.{own_kind}
+use Rattle.causes.specs.Groups.{time_causes}
+use Rattle.causes.proofs.busy.time_cause.Goals as goal
+
+-- one more doesn't fit where the bound is reached
+reached : (count waiting last : ℕ) (fits : Bool) → leb (count + (waiting + 1)) last ≡ fits → leb last (count + waiting) ≡ not fits
+reached count waiting last true is = lt-leb last (count + waiting) (omega (arith, leb-true (count + (waiting + 1)) last is))
+reached count waiting last false is = le-leb last (count + waiting) (omega (arith, leb-false (count + (waiting + 1)) last is))
+
+pub queue_length-requires-clause-kind : goal.queue_length-requires-clause-kind
+queue_length-requires-clause-kind c = own_kind c.args.table.now c.args.number c.kind_of-h.ensures
+
+pub overflow_add-queue_length : goal.overflow_add-queue_length
+overflow_add-queue_length c =
+    let known = own_kind c.args.table.now c.args.number c.kind_of-h.ensures in
+    omega (arith, c.queue_length.ensures, (c.requires.sound.lines _ known).short)
+
+pub has_times_left-requires-clause-kind : goal.has_times_left-requires-clause-kind
+has_times_left-requires-clause-kind c = own_kind c.args.table.now c.args.number c.kind_of-h.ensures
+
+pub returns-then-has_times_left : goal.returns-then-has_times_left
+unfolding time_causes
+returns-then-has_times_left c =
+    rw (
+      ← c.kind_of-h.ensures,
+      ← c.queue_length.ensures,
+      reached _ _ last_time true (sym c.has_times_left.ensures ∙ c.if-has_times_left.true),
+    )
+
+pub returns-else-has_times_left : goal.returns-else-has_times_left
+unfolding time_causes
+returns-else-has_times_left c =
+    rw (
+      ← c.kind_of-h.ensures,
+      ← c.queue_length.ensures,
+      reached _ _ last_time false (sym c.has_times_left.ensures ∙ c.if-has_times_left.false),
+    )

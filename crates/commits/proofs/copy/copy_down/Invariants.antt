@@ -1,0 +1,25 @@
+-- `copy_down` leaves what all turns leave. The loop's invariant: the ledger is the one at entry with the turns of the accounts
+-- from k up. Assumes nothing.
+use Prim.Native.Nat.{◌≤◌}
+use native.Mathlib.Omega.{arith}
+use mathlib.Core.Path.{◌≡◌, refl, sym}
+use lib.ListN.{length}
+use borrow.Author.Rules.{rules}
+use Rattle.rules.specs.Card.{account_count}
+use Rattle.rules.specs.Ledger.{ledger_of}
+use Rattle.rules.specs.Commit.{copied_down}
+use Rattle.rules.proofs.Copies.Turns.{CanCopy}
+use Rattle.rules.proofs.Copies.Falling.{copied_none}
+use Rattle.commits.proofs.NextTurn.{turn_more, fits_in_turn}
+use Rattle.commits.proofs.copy.copy_down.Given as goal
+
+abbrev pub invariant-loop-k : goal.invariant-loop-k
+invariant-loop-k l =
+    (l.k ≤ account_count)
+    × (length l.table ≡ length l.initial.table)
+    × (length l.base ≡ length l.initial.base)
+    × (length l.shadow ≡ length l.initial.shadow)
+    × (ledger_of l.table l.base l.shadow ≡ copied_down (ledger_of l.initial.table l.initial.base l.initial.shadow) l.n l.p l.k)
+
+abbrev pub decreases-loop-k : goal.decreases-loop-k
+decreases-loop-k l = l.k

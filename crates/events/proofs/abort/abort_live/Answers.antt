@@ -1,0 +1,24 @@
+-- `abort_live` meets its contract. The loop's invariant: the abort has come to action `m`, with `found` aborted so far
+-- (`Reached`). The measure is what is left of the actions. Assumes nothing.
+use Prim.Native.Nat.{◌-◌}
+use native.Mathlib.Omega.{arith}
+use mathlib.Core.Path.{sym, ◌∙◌}
+use mathlib.Core.Logic.{⊎_elim}
+use borrow.Author.Rules.{rules}
+use Rattle.events.proofs.AbortMarks.{Reached, reached_first, live_climb_kept, known_kept, found_few, reached_over, reached_here, reached_last}
+use Rattle.events.proofs.abort.abort_live.Goals as goal
+
+pub loop-m-init : goal.loop-m-init
+loop-m-init c = reached_first _ _
+
+pub is_aborted_by-requires : goal.is_aborted_by-requires
+is_aborted_by-requires c =
+    let reached = c.loop-m.invariant in
+    record { live_climb = live_climb_kept _ _ reached c.requires; given = (reached.first, known_kept _ _ reached (omega arith)) }
+
+pub overflow_add-found : goal.overflow_add-found
+overflow_add-found c =
+    omega (arith, c.requires.few, found_few _ _ c.loop-m.invariant)
+
+pub shape_of-table : goal.shape_of-table
+shape_of-table c = c.loop-m.invariant.long
