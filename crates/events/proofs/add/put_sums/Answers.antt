@@ -2,8 +2,12 @@
 -- theirs. Assumes nothing.
 use native.Mathlib.Omega.{arith}
 use mathlib.Core.Path.{◌≡◌, ap, sym, ◌∙◌}
-use mathlib.Core.Bool.{true}
+use mathlib.Core.Bool.{Bool, true}
+use Prim.Native.Nat.{ℕ, ◌<◌}
+use mathlib.Core.List.{List}
 use lib.IntN.{ℤ, ◌+ℤ◌}
+use Rattle.amounts.specs.declared.sum.Sum.{Sum}
+use Rattle.amounts.specs.Sum.{value_of, word_values}
 use borrow.Author.Rules.{rules}
 use Rattle.rules.specs.Amount.{amount_of, amount_word, is_amount, amount_in}
 use Rattle.rules.specs.Table.{pending_sum, own_adds}
@@ -11,41 +15,26 @@ use Rattle.rules.specs.Step.{add_table}
 use Rattle.rules.proofs.Laws.Tests.{or_fails, not_fails}
 use Rattle.amounts.proofs.Sums.{word_of_sum}
 use Rattle.events.proofs.add.put_sums.Goals as goal
-use Rattle.events.proofs.add.put_sums.Goals.{After-with_amount-own, Start}
 
--- ---- the sums that are put, as they were made
-
-module _ (c : After-with_amount-own) where
-  abbrev start : Start
-  start = c.before.before.before.before.before.before.before.before
-
-  abbrev given : ℤ
-  given = amount_in start.args.card.now
-
-  abbrev pending_left : ℤ
-  pending_left = pending_sum start.args.table.now start.args.n start.args.k +ℤ given
-
-  abbrev own_left : ℤ
-  own_left = own_adds start.args.table.now start.args.n start.args.k +ℤ given
-
-  both_fit : (is_amount pending_left ≡ true) × (is_amount own_left ≡ true)
-  both_fit =
-      let neither = (or_fails _ _).0 start.pre.1.1 in
-      ((not_fails (is_amount pending_left)).0 neither.0, (not_fails (is_amount own_left)).0 neither.1)
-
-  pending_word : amount_word pending_left ≡ c.with_amount-sum.result.low
-  pending_word =
-      let made = c.with_amount-sum.ensures ∙ ap (λ x. amount_of x +ℤ given) c.pending.ensures in
-      ap amount_word (sym made) ∙ word_of_sum _ (omega arith) (ap is_amount made ∙ both_fit.0)
-
-  own_word : amount_word own_left ≡ c.with_amount-own.result.low
-  own_word =
-      let made = c.with_amount-own.ensures ∙ ap (λ x. amount_of x +ℤ given) c.own_adds.ensures in
-      ap amount_word (sym made) ∙ word_of_sum _ (omega arith) (ap is_amount made ∙ both_fit.1)
+-- the word of a sum that is an amount is the low word that was made
+word_made :
+    (sum : Sum) (x : ℕ) (given z : ℤ) → sum.low < word_values → is_amount (z +ℤ given) ≡ true →
+    value_of sum ≡ amount_of x +ℤ given → amount_of x ≡ z → amount_word (z +ℤ given) ≡ sum.low
+word_made sum x given z fits is made left =
+    let same = made ∙ ap (λ y. y +ℤ given) left in
+    ap amount_word (sym same) ∙ word_of_sum _ fits (ap is_amount same ∙ is)
 
 pub returns : goal.returns
 unfolding add_table
 returns c =
-    let made = c.before.before.before in
-    rw (← c.set_write_entry.ensures, pending_word made, own_word made, ← c.set_pending.ensures)
+    let neither = (or_fails _ _).0 c.requires.card_value in
+    let given = amount_in c.args.card.now in
+    let pending_fits = (not_fails (is_amount (pending_sum c.args.table.now c.args.n c.args.k +ℤ given))).0 neither.0 in
+    let own_fits = (not_fails (is_amount (own_adds c.args.table.now c.args.n c.args.k +ℤ given))).0 neither.1 in
+    rw (
+      ← c.set_write_entry.ensures,
+      word_made _ _ given _ (omega arith) pending_fits c.with_amount-sum.ensures (ap amount_of c.pending.ensures),
+      word_made _ _ given _ (omega arith) own_fits c.with_amount-own.ensures (ap amount_of c.own_adds.ensures),
+      ← c.set_pending.ensures,
+    )
     c.set_own_adds.ensures

@@ -11,33 +11,24 @@ use Rattle.rules.specs.Step.{leaves_read_set, read_table}
 use Rattle.rules.proofs.Laws.Tests.{or_inl, or_inr}
 use Rattle.rules.proofs.Sound.Soundness.{counter_at_most}
 use Rattle.events.proofs.read.enter.Goals as goal
-use Rattle.events.proofs.read.enter.Goals.{Else-own, Joined-then-read}
-
--- where the test fails the reader has no card for the account, and the account isn't in the read set
-entering :
-    (c : Else-own) →
-    let args = c.args in
-    leaves_read_set args.table.now args.n args.k ≡ false
-entering c =
-    let bare = sym c.has_card-own.ensures ∙ c.if-own.false in
-    let unread = sym c.has_read-read.ensures ∙ c.if-read.false in
-    rw unread bare
-
--- where it holds one of the two is so
-left_alone :
-    (c : Joined-then-read) →
-    let args = c.args in
-    leaves_read_set args.table.now args.n args.k ≡ true
-left_alone c =
-    let args = c.args in
-    ⊎_elim
-    (λ read. or_inl _ (sym c.has_read-read.ensures ∙ read.taken))
-    (λ unread. or_inr (has_read args.table.now args.n args.k) (sym c.has_card-own.ensures ∙ unread.1.taken))
-    c.if-read.branch
-
-pub returns-then-read : goal.returns-then-read
-unfolding read_table
-returns-then-read c = rw (left_alone c) refl
 
 pub set_read_now-requires-clause-can_count : goal.set_read_now-requires-clause-can_count
 set_read_now-requires-clause-can_count c = counter_at_most c.args.table.now c.requires.sound top_kind (omega arith)
+
+-- where the test holds the account is in the read set, or the reader has a card for it
+pub returns-then-read : goal.returns-then-read
+unfolding read_table
+returns-then-read c =
+    let args = c.args in
+    let left : leaves_read_set args.table.now args.n args.k ≡ true =
+        ⊎_elim
+        (λ read. or_inl _ (sym c.has_read-read.ensures ∙ read))
+        (λ unread. or_inr (has_read args.table.now args.n args.k) (sym c.has_card-own.ensures ∙ unread.1))
+        c.then-read.either
+    in
+    rw left refl
+
+pub returns : goal.returns
+unfolding read_table
+returns c =
+    rw (sym c.has_read-read.ensures ∙ c.if-read.false, sym c.has_card-own.ensures ∙ c.if-own.false) c.set_read_now.ensures
