@@ -1,0 +1,18 @@
+-- `leave` meets its contract. The loop's invariant: what is left to leave now, with those who have left, is what was to leave at
+-- entry (`StillLeaving`). The measure is the queue's length. Assumes nothing.
+use native.Mathlib.Omega.{arith}
+use mathlib.Core.Path.{sym, ap, ◌∙◌}
+use borrow.Author.Rules.{rules}
+use Rattle.rules.specs.Queue.{queue_length}
+use Rattle.rules.specs.Ledger.{Ledger, ledger_of}
+use Rattle.rules.proofs.Sound.Leaving.{one_fewer}
+use Rattle.queue.proofs.OwnQueue.{sound_line}
+use Rattle.judging.proofs.Leaving.{StillLeaving, leaving_first, leaving_next, leaving_last}
+use Rattle.judging.proofs.leave.leave.Given as goal
+
+abbrev pub invariant-loop-table : goal.invariant-loop-table
+invariant-loop-table l =
+    StillLeaving l.h (ledger_of l.initial.table l.initial.base l.initial.shadow) (ledger_of l.table l.base l.shadow) l.left
+
+abbrev pub decreases-loop-table : goal.decreases-loop-table
+decreases-loop-table l = queue_length l.table l.h
