@@ -1,0 +1,6 @@
+-- `is_child` tests the parent, as the definition does. Assumes nothing.
+use borrow.Author.Rules.{rules}
+use Rattle.report.proofs.lines.is_child.Goals as goal
+
+pub returns : goal.returns
+returns c = rw c.parent.ensures

@@ -1,0 +1,48 @@
+-- `report` puts the lines under the store and the last block, where there is no cause. Assumes nothing.
+use native.Mathlib.Nat.{zero-add}
+use native.Mathlib.Omega.{arith}
+use mathlib.Core.Path.{◌≡◌, sym, ap, ◌∙◌}
+use mathlib.Core.List.{List}
+use Prim.Native.Nat.{ℕ, ◌-◌, ◌≤◌}
+use borrow.Author.Rules.{rules}
+use borrow.Author.Tests.{ne_eqb}
+use lib.ListN.{length}
+use Rattle.rules.specs.Table.{most_actions}
+use Rattle.rules.specs.Sound.{Sound}
+use Rattle.rules.specs.Tree.{tree_lines, with_report, report}
+use Rattle.rules.proofs.Tree.Shown.{store_shown}
+use Rattle.rules.proofs.Tree.Lines.{no_more_lines}
+use Rattle.report.specs.Lined.{lines_from}
+use Rattle.report.proofs.Causes.{reportable}
+use Rattle.report.proofs.Lining.{lines_under, lined_length}
+use Rattle.report.proofs.report.report.Goals as goal
+
+-- the lines of the store's children are all lines
+all_lines : (w : List ℕ) → tree_lines w ≡ lines_from (most_actions - 1) w 0 0 1
+unfolding tree_lines
+all_lines w = lines_under (most_actions - 1) w 0 0
+
+few_lines : {w : List ℕ} → Sound w → length (lines_from (most_actions - 1) w 0 0 1) ≤ most_actions
+few_lines {w} s = omega (arith, ap length (all_lines w), no_more_lines s, s.few)
+
+pub returns-then-cause-ne-NONE : goal.returns-then-cause-ne-NONE
+unfolding report
+returns-then-cause-ne-NONE c = rw (← c.tree_cause-cause.ensures, ne_eqb _ 0 c.if-cause-ne-NONE.true)
+
+pub put_list-put-requires : goal.put_list-put-requires
+put_list-put-requires c =
+    let may = reportable _ _ _ _ (sym c.tree_cause-cause.ensures ∙ c.if-cause-ne-NONE.false) in
+    record { figures_fit = may.fit; shown = store_shown _; next = omega arith; has_levels = omega arith; has_line_room = record { whole = search rules; room = omega (arith, few_lines may.accepted.1) } }
+
+pub put_block-requires : goal.put_block-requires
+put_block-requires c =
+    let may = reportable _ _ _ _ (sym c.tree_cause-cause.ensures ∙ c.if-cause-ne-NONE.false) in
+    record { has_row = omega (arith, may.accepted.1.long); base = (may.accepted.0.base_fits, may.opens); report = lined_length _ c.put_list-put.ensures ∙ search rules }
+
+pub returns : goal.returns
+unfolding report with_report
+returns c =
+    let args = c.args in
+    let none = sym c.tree_cause-cause.ensures ∙ c.if-cause-ne-NONE.false in
+    let put = c.put_list-put.ensures in
+    rw (none, all_lines args.table.now, put.counted ∙ zero-add _, c.put_block.ensures, put.leaves)
