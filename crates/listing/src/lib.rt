@@ -1,4 +1,5 @@
 // The lines of a listing and of a tree, put into a buffer.
 #![tactic(auto)]
+
 pub mod lines;
 pub mod tree;

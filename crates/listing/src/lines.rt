@@ -9,6 +9,7 @@ use rules::kind;
 use rules::kind::ANSWER_LENGTH;
 use text::{put_byte, put_number, put_signed, put_spaced, put_text};
 
+#[tactic(auto, unfolding(crate::specs::Buffer::word_of))]
 fn put_word(out: &mut [u8], at: usize, kind: u64) -> usize
     requires { at + length (word_of kind) ≤ length out.old }
     ensures next { result ≡ at + length (word_of kind) }

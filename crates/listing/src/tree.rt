@@ -14,6 +14,7 @@ use rules::report::{
 use rules::table::{COMMITTED, LIVE};
 use text::{put_byte, put_number, put_signed, put_spaced, put_text};
 
+#[tactic(auto, unfolding(crate::specs::Tree::state_word))]
 fn put_state(out: &mut [u8], at: usize, state: u64) -> usize
     requires { at + length (state_word state) ≤ length out.old }
     ensures next { result ≡ at + length (state_word state) }

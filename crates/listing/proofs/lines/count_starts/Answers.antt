@@ -1,35 +1,24 @@
 -- `count_starts` meets its contract. The loop's invariant: `starts` is how many of the first `i` answers are starts, and so
 -- it is at most `i`. Assumes nothing.
-use Prim.Native.Nat.{ℕ, ◌+◌, ◌-◌, ◌*◌, ◌≤◌}
+use Prim.Native.Nat.{ℕ, ◌+◌}
 use native.Mathlib.Omega.{arith}
 use mathlib.Core.Path.{◌≡◌, refl, ap₂}
-use lib.ListN.{get_or}
-use borrow.Author.Rules.{rules}
-use Rattle.rules.specs.Encoding.{answer_length}
 use Rattle.listing.specs.Buffer.{starts_from}
 use Rattle.listing.proofs.Starts.{starts_next, one_start}
 use Rattle.listing.proofs.lines.count_starts.Goals as goal
-use Rattle.listing.proofs.lines.count_starts.Goals.{After-starts_of-starts}
 
 pub loop-i-init : goal.loop-i-init
 unfolding starts_from
 loop-i-init c = (omega arith, omega arith, refl)
 
--- the next answer is one start at most
-one_more : (c : After-starts_of-starts invariant_loop decreases_loop) → c.starts_of-starts.result ≤ 1
-one_more c =
-    let loop = c.loop-i in
-    let args = c.args in
-    one_start (get_or args.answers.now (answer_length * loop.i) 0) c.starts_of-starts.ensures
-
 pub overflow_add-starts : goal.overflow_add-starts
-overflow_add-starts c = omega (arith, one_more c)
+overflow_add-starts c = omega (arith, one_start _ c.starts_of-starts.ensures)
 
 pub loop-i-preserved : goal.loop-i-preserved
 loop-i-preserved c =
     let loop = c.loop-i in (
       omega arith,
-      omega (arith, one_more c),
+      omega (arith, one_start _ c.starts_of-starts.ensures),
       rw starts_next (ap₂ (λ (m n : ℕ). m + n) loop.invariant.2 c.starts_of-starts.ensures),
     )
 

@@ -1,13 +1,8 @@
 -- `count_starts` meets its contract. The loop's invariant: `starts` is how many of the first `i` answers are starts, and so
 -- it is at most `i`. Assumes nothing.
-use Prim.Native.Nat.{ℕ, ◌+◌, ◌-◌, ◌*◌, ◌≤◌}
-use native.Mathlib.Omega.{arith}
-use mathlib.Core.Path.{◌≡◌, refl, ap₂}
-use lib.ListN.{get_or}
-use borrow.Author.Rules.{rules}
-use Rattle.rules.specs.Encoding.{answer_length}
+use Prim.Native.Nat.{◌-◌, ◌≤◌}
+use mathlib.Core.Path.{◌≡◌}
 use Rattle.listing.specs.Buffer.{starts_from}
-use Rattle.listing.proofs.Starts.{starts_next, one_start}
 use Rattle.listing.proofs.lines.count_starts.Given as goal
 
 abbrev pub invariant-loop-i : goal.invariant-loop-i

@@ -1,7 +1,6 @@
 -- `put_line` meets its contract: the place, a space, the answer and a line feed are put, each right behind the one before.
 -- Assumes nothing.
 use native.Mathlib.Omega.{arith}
-use borrow.Author.Rules.{rules}
 use Rattle.listing.specs.Buffer.{line_of}
 use Rattle.text.proofs.Texts.{put_then}
 use Rattle.listing.proofs.Pieces.{length_of_line}
@@ -34,7 +33,8 @@ returns c =
     put_then _ _ _ _
     (put_then _ _ _ _
     (c.put_number-numbered.ensures.next, c.put_number-numbered.ensures.leaves)
-    (put_then _ _ _ _ (c.put_byte-spaced.ensures.next, c.put_byte-spaced.ensures.leaves) (c.put_answer-answered.ensures.next, c.put_answer-answered.ensures.leaves)))
+    (put_then _ _ _ _ (c.put_byte-spaced.ensures.next, c.put_byte-spaced.ensures.leaves)
+    (c.put_answer-answered.ensures.next, c.put_answer-answered.ensures.leaves)))
     (c.put_byte.ensures.next, c.put_byte.ensures.leaves)
     in
     record { next = made.0; leaves = made.1 }

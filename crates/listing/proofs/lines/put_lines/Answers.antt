@@ -1,12 +1,9 @@
 -- `put_lines` meets its contract. The loop's invariant: the lines of the first `i` answers have been put, and `at` is where
 -- they end. The buffer has room for the next line since no line is longer than line_length. Assumes nothing.
-use Prim.Native.Nat.{◌+◌, ◌-◌, ◌≤◌}
 use native.Mathlib.Nat.{zero-add}
 use native.Mathlib.Omega.{arith}
 use mathlib.Core.Path.{◌≡◌, refl, sym}
-use lib.ListN.{length}
 use borrow.Author.Rules.{rules}
-use Rattle.text.specs.Put.{put_at}
 use Rattle.listing.specs.Buffer.{lines_of}
 use Rattle.text.proofs.Texts.{put_then, put_at_nothing}
 use Rattle.listing.proofs.Pieces.{lines_next}
@@ -25,4 +22,11 @@ put_line-at-requires c =
 pub loop-i-preserved : goal.loop-i-preserved
 loop-i-preserved c =
     let loop = c.loop-i in
-    (omega arith, search rules, rw lines_next (put_then _ _ _ _ loop.invariant.2 (c.put_line-at.ensures.next, c.put_line-at.ensures.leaves)))
+    let put = put_then _ _ _ _ loop.invariant.2 (c.put_line-at.ensures.next, c.put_line-at.ensures.leaves) in
+    (omega arith, search rules, rw lines_next put)
+
+pub returns : goal.returns
+returns c =
+    let whole : c.loop-i.i ≡ c.args.count = omega arith in
+    let put = rw (zero-add, whole) at c.loop-i.invariant.2 in
+    record { next = put.0; leaves = put.1 }

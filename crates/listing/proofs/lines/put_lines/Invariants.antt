@@ -1,16 +1,10 @@
 -- `put_lines` meets its contract. The loop's invariant: the lines of the first `i` answers have been put, and `at` is where
 -- they end. The buffer has room for the next line since no line is longer than line_length. Assumes nothing.
 use Prim.Native.Nat.{◌+◌, ◌-◌, ◌≤◌}
-use native.Mathlib.Nat.{zero-add}
-use native.Mathlib.Omega.{arith}
-use mathlib.Core.Path.{◌≡◌, refl, sym}
+use mathlib.Core.Path.{◌≡◌}
 use lib.ListN.{length}
-use borrow.Author.Rules.{rules}
 use Rattle.text.specs.Put.{put_at}
 use Rattle.listing.specs.Buffer.{lines_of}
-use Rattle.text.proofs.Texts.{put_then, put_at_nothing}
-use Rattle.listing.proofs.Pieces.{lines_next}
-use Rattle.listing.proofs.Bounds.{line_fits}
 use Rattle.listing.proofs.lines.put_lines.Given as goal
 
 abbrev pub invariant-loop-i : goal.invariant-loop-i

@@ -2,7 +2,6 @@
 -- buffer of 81,920 bytes has room for both. Assumes nothing.
 use native.Mathlib.Omega.{arith}
 use mathlib.Core.Path.{sym}
-use borrow.Author.Rules.{rules}
 use Rattle.listing.specs.Buffer.{listing_of}
 use Rattle.listing.proofs.Bounds.{listing_fits}
 use Rattle.text.proofs.Texts.{put_front}
@@ -15,3 +14,11 @@ put_end-requires c =
       listing_fits c.args.answers.now c.args.count
           c.count_starts-starts.result c.top_counter-top.result c.sub_counter-sub.result c.requires.has_answers.0,
     )
+
+pub returns : goal.returns
+unfolding listing_of
+returns c =
+    let put = put_front _ _ _ (c.put_lines-next.ensures.next, c.put_lines-next.ensures.leaves)
+    (c.put_end.ensures.next, c.put_end.ensures.leaves) in
+    rw (sym c.count_starts-starts.ensures, sym c.top_counter-top.ensures, sym c.sub_counter-sub.ensures)
+    record { next = put.0; leaves = put.1 }

@@ -3,7 +3,6 @@ use native.Mathlib.Nat.{add-zero}
 use native.Mathlib.Omega.{arith}
 use mathlib.Core.Path.{sym, ap, ◌∙◌}
 use lib.ListN.{length, length-append}
-use borrow.Author.Rules.{rules}
 use Rattle.text.proofs.Texts.{put_then, put_at_nothing}
 use Rattle.listing.proofs.Pieces.{no_numbers, two_numbers, one_number, first_fits}
 use Rattle.listing.proofs.lines.put_numbers.Goals as goal
@@ -34,3 +33,12 @@ returns c =
     (sym c.has_no_numbers.ensures ∙ c.if-has_no_numbers.false)
     (sym c.has_two_numbers.ensures ∙ c.if-has_two_numbers.false))
     record { next = c.put_spaced-one.ensures.next; leaves = c.put_spaced-one.ensures.leaves }
+
+pub returns-then-has_two_numbers : goal.returns-then-has_two_numbers
+returns-then-has_two_numbers c =
+    let put = put_then _ _ _ _ (c.put_spaced-one.ensures.next, c.put_spaced-one.ensures.leaves)
+    (c.put_spaced.ensures.next, c.put_spaced.ensures.leaves) in
+    rw (two_numbers _ _ _
+    (sym c.has_no_numbers.ensures ∙ c.if-has_no_numbers.false)
+    (sym c.has_two_numbers.ensures ∙ c.if-has_two_numbers.true))
+    record { next = put.0; leaves = put.1 }

@@ -1,7 +1,6 @@
 -- `put_action_line` meets its contract: the depth, the number, the state's word, the figures and a line feed are put, each right
 -- behind the one before. Assumes nothing.
 use native.Mathlib.Omega.{arith}
-use borrow.Author.Rules.{rules}
 use Rattle.listing.specs.Report.{line_at_place}
 use Rattle.text.proofs.Texts.{put_then}
 use Rattle.listing.proofs.Pieces.{spaced_one}
@@ -37,3 +36,20 @@ pub put_byte-requires : goal.put_byte-requires
 put_byte-requires c =
     let a = c.args in
     omega (arith, length_of_line a.words.now a.from)
+
+pub returns : goal.returns
+unfolding line_at_place
+returns c =
+    let state = put_then _ _ _ _ (c.put_byte-spaced.ensures.next, c.put_byte-spaced.ensures.leaves)
+    (c.put_state-stated.ensures.next, c.put_state-stated.ensures.leaves) in
+    let put =
+    put_then _ _ _ _
+    (put_then _ _ _ _
+    (put_then _ _ _ _
+    (put_then _ _ _ _ (c.put_number-deep.ensures.next, c.put_number-deep.ensures.leaves)
+    (c.put_spaced-numbered.ensures.next, c.put_spaced-numbered.ensures.leaves))
+    state)
+    (c.put_signeds-figured.ensures.next, c.put_signeds-figured.ensures.leaves))
+    (c.put_byte.ensures.next, c.put_byte.ensures.leaves)
+    in
+    rw spaced_one record { next = put.0; leaves = put.1 }

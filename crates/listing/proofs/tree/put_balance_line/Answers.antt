@@ -1,7 +1,6 @@
 -- `put_balance_line` meets its contract: the account, its figures and a line feed are put, each right behind the one before.
 -- Assumes nothing.
 use native.Mathlib.Omega.{arith}
-use borrow.Author.Rules.{rules}
 use Rattle.listing.specs.Report.{balance_at_place}
 use Rattle.text.proofs.Texts.{put_then}
 use Rattle.listing.proofs.TreePieces.{length_of_balance}
@@ -27,7 +26,8 @@ unfolding balance_at_place
 returns c =
     let made =
     put_then _ _ _ _
-    (put_then _ _ _ _ (c.put_number-account.ensures.next, c.put_number-account.ensures.leaves) (c.put_signeds-figured.ensures.next, c.put_signeds-figured.ensures.leaves))
+    (put_then _ _ _ _ (c.put_number-account.ensures.next, c.put_number-account.ensures.leaves)
+    (c.put_signeds-figured.ensures.next, c.put_signeds-figured.ensures.leaves))
     (c.put_byte.ensures.next, c.put_byte.ensures.leaves)
     in
     record { next = made.0; leaves = made.1 }

@@ -1,12 +1,9 @@
 -- `put_signeds` meets its contract. The loop's invariant: the first `i` words have been put, and `next` is where they end.
 -- Assumes nothing.
-use Prim.Native.Nat.{◌+◌, ◌-◌, ◌≤◌}
 use native.Mathlib.Nat.{add-zero}
 use native.Mathlib.Omega.{arith}
-use mathlib.Core.Path.{◌≡◌, refl, sym}
-use lib.ListN.{length}
+use mathlib.Core.Path.{refl, sym}
 use borrow.Author.Rules.{rules}
-use Rattle.text.specs.Put.{put_at}
 use Rattle.listing.specs.Report.{signed_from}
 use Rattle.text.proofs.Texts.{put_then, put_at_nothing}
 use Rattle.listing.proofs.TreePieces.{signeds_next, next_signed_fits}
@@ -27,12 +24,12 @@ put_signed-next-requires c =
     omega (arith, next_signed_fits a.words.now a.from c.loop-i.i a.count (omega arith))
 
 pub loop-i-preserved : goal.loop-i-preserved
-loop-i-preserved c =
-    (
-      omega arith,
-      search rules,
-      rw signeds_next
-          (put_then _ _ _ _
-          c.loop-i.invariant.2
-          (put_then _ _ _ _ (c.put_byte-spaced.ensures.next, c.put_byte-spaced.ensures.leaves) (c.put_signed-next.ensures.next, c.put_signed-next.ensures.leaves))),
-    )
+loop-i-preserved c = (
+  omega arith,
+  search rules,
+  rw signeds_next
+      (put_then _ _ _ _
+      c.loop-i.invariant.2
+      (put_then _ _ _ _ (c.put_byte-spaced.ensures.next, c.put_byte-spaced.ensures.leaves)
+      (c.put_signed-next.ensures.next, c.put_signed-next.ensures.leaves))),
+)
