@@ -5,3 +5,4 @@ mod Faults
 mod Totals
 mod Lines
 pub mod Worked
+mod Prints

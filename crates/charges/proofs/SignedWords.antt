@@ -11,11 +11,15 @@ amount_fits z h = record { sfits = ltb-true (mag z) (2 ^ 63) h }
 
 -- a number that they hold is read back from its word
 pub held : {z : ℤ} → mag z < 2 ^ 63 → to_z w64 (of_z w64 z) ≡ z
-held h = to_z-of_z (record { sfits = h })
+held h = to_z-of_z {w = w64} (record { sfits = h })
 
-pub word_amount : {z : ℤ} → mag z < 2 ^ 63 → amount_of (amount_word z) ≡ z
+word_amount : {z : ℤ} → mag z < 2 ^ 63 → amount_of (amount_word z) ≡ z
 unfolding amount_of amount_word
 word_amount h = held h
+
+-- and so the word of what is read back stands for the number
+pub word_shown : (z : ℤ) {word : ℕ} → mag z < 2 ^ 63 → word ≡ amount_word (to_z w64 (of_z w64 z)) → amount_of word ≡ z
+word_shown z h is = rw (is, held h) (word_amount h)
 
 -- -1 less a number is on the other side of 0
 from_above : (m : ℕ) → negsuc 0 -ℤ pos m ≡ negsuc m
