@@ -1,0 +1,2 @@
+-- What a stream is left with where a read or a write fails.
+pub mod Parts
