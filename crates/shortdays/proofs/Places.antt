@@ -82,7 +82,8 @@ module _
     -- it is taken, and the search goes on behind it
     module _ (left : ℕ) {i : ℕ} {t : Ledger} {after : List ℕ} where
       pub found_behind :
-          1 ≤ left - 1 → IsFound (lists (left - 1) (p + 1) (step s e).after) i (p + 1) (left - 1) (step s e).after t (with_event list p e) after →
+          1 ≤ left - 1 →
+          IsFound (lists (left - 1) (p + 1) (step s e).after) i (p + 1) (left - 1) (step s e).after t (with_event list p e) after →
           IsFound (beginning (lists (left - 1) (p + 1)) s e) i p left s t list after
       unfolding bytes_of_events run
       found_behind more found =
@@ -106,13 +107,15 @@ module _
           })
 
       pub kept_behind :
-          {j : ℕ} → IsPast (lists (left - 1) (p + 1) (step s e).after) i j (p + 1) (step s e).after t (with_event list p e) after →
+          {j : ℕ} →
+          IsPast (lists (left - 1) (p + 1) (step s e).after) i j (p + 1) (step s e).after t (with_event list p e) after →
           take (event_length * p) after ≡ take (event_length * p) list
       kept_behind past = fewer_kept p (with_event list p e) after past.kept ∙ written_before list p e whole room
 
       pub past_behind :
           {j : ℕ} {back : Ledger} →
-          IsPast (lists (left - 1) (p + 1) (step s e).after) i j (p + 1) (step s e).after t (with_event list p e) after → back ≡ s →
+          IsPast (lists (left - 1) (p + 1) (step s e).after) i j (p + 1) (step s e).after t (with_event list p e) after →
+          back ≡ s →
           IsPast (beginning (lists (left - 1) (p + 1)) s e) i j p s back list after
       past_behind {j} past again =
           let days = lists (left - 1) (p + 1) (step s e).after in
@@ -157,7 +160,8 @@ module _ (some more : List (List Event)) {i p : ℕ} (left : ℕ) {s t : Ledger}
 -- .. of the candidates from c on
 module _ (follow : Ledger → List (List Event)) (p : ℕ) (s : Ledger) (c : ℕ) where
   pub none_left :
-      {i : ℕ} {list : List ℕ} → c ≡ candidate_count → IsPast (beginning_from follow p s (candidate_count - c) c) i i p s s list list
+      {i : ℕ} {list : List ℕ} → c ≡ candidate_count →
+      IsPast (beginning_from follow p s (candidate_count - c) c) i i p s s list list
   unfolding beginning_from
   none_left {i} is =
       let none : candidate_count - c ≡ 0 = omega arith in

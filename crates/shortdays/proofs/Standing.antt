@@ -73,7 +73,8 @@ bytes_one_more : (es : List Event) (e : Event) → bytes_of_events (es ++ (e ∷
 unfolding bytes_of_events
 bytes_one_more [] e = append-nil (bytes_of_event e)
 bytes_one_more (f ∷ es) e =
-    ap (λ bytes. bytes_of_event f ++ bytes) (bytes_one_more es e) ∙ sym (append_assoc (bytes_of_event f) (bytes_of_events es) (bytes_of_event e))
+    ap (λ bytes. bytes_of_event f ++ bytes) (bytes_one_more es e)
+    ∙ sym (append_assoc (bytes_of_event f) (bytes_of_events es) (bytes_of_event e))
 
 whole_one_more :
     (es : List Event) (e : Event) → all (λ f. eqb (length f.card) card_length) es ≡ true → IsWhole e →
@@ -110,7 +111,9 @@ module _ {rule p : ℕ} {list : List ℕ} {s : Ledger} (r : Reached rule p list 
         many = length-append r.events (e ∷ []) ∙ ap (λ n. n + 1) r.many;
         whole = whole_one_more r.events e r.whole whole;
         written =
-            written_up_to list p e whole room ∙ ap (λ bytes. bytes ++ bytes_of_event e) r.written ∙ sym (bytes_one_more r.events e);
+            written_up_to list p e whole room
+            ∙ ap (λ bytes. bytes ++ bytes_of_event e) r.written
+            ∙ sym (bytes_one_more r.events e);
         led = ap (λ t. (step t e).after) r.led ∙ sym (run_one_more (opening_under rule) r.events e);
       }
 
@@ -126,7 +129,8 @@ module _ {rule p : ℕ} {list : List ℕ} {s : Ledger} (r : Reached rule p list 
 
 pub searching_kept :
     {rule p left : ℕ} {list : List ℕ} {s : Ledger} → Searching rule p left list s → (after : List ℕ) (t : Ledger) →
-    length after ≡ length list → take (event_length * p) after ≡ take (event_length * p) list → t ≡ s → Searching rule p left after t
+    length after ≡ length list → take (event_length * p) after ≡ take (event_length * p) list → t ≡ s →
+    Searching rule p left after t
 searching_kept h after t same kept back =
     rw back
     (record { long = same ∙ h.long; some = h.some; few = h.few; reached = reached_kept h.reached after kept })
@@ -135,7 +139,8 @@ searching_kept h after t same kept back =
 
 pub searching_next :
     {rule p left : ℕ} {list : List ℕ} {s : Ledger} → Searching rule p left list s → (e : Event) → IsWhole e →
-    event_length * (p + 1) ≤ length list → 1 ≤ left - 1 → {after : List ℕ} {t : Ledger} → after ≡ with_event list p e → t ≡ (step s e).after →
+    event_length * (p + 1) ≤ length list → 1 ≤ left - 1 → {after : List ℕ} {t : Ledger} →
+    after ≡ with_event list p e → t ≡ (step s e).after →
     Searching rule (p + 1) (left - 1) after t
 searching_next {p = p} {list = list} h e whole room more written stepped =
     rw (written, stepped)

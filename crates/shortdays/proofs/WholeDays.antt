@@ -39,7 +39,8 @@ pub opened_new :
 opened_new rule is = ap (λ table. ledger_of table (replicate base_length 0) (replicate shadow_length 0)) is
 
 pub searching_first :
-    {rule k : ℕ} {list : List ℕ} {s : Ledger} → IsShortLong list → 1 ≤ k → k ≤ most_short → s ≡ opening_under rule → Searching rule 0 k list s
+    {rule k : ℕ} {list : List ℕ} {s : Ledger} → IsShortLong list → 1 ≤ k → k ≤ most_short → s ≡ opening_under rule →
+    Searching rule 0 k list s
 unfolding all bytes_of_events run
 searching_first {k = k} long some few is =
     record {
@@ -77,7 +78,8 @@ few_events k rule none = (ltb_fails most_short k).0 (not_given _ _ _ (not_given 
 
 module _ (k rule place : ℕ) (buffer : List ℕ) where
   pub day_refused :
-      {cause : ℕ} → cause ≡ short_cause k rule → cause ≢ 0 → (Refused cause ≡ short_answer k rule place) × (buffer ≡ short_list k rule place buffer)
+      {cause : ℕ} → cause ≡ short_cause k rule → cause ≢ 0 →
+      (Refused cause ≡ short_answer k rule place) × (buffer ≡ short_list k rule place buffer)
   unfolding short_answer short_list
   day_refused {cause} is given = rw (← is, ne_eqb cause 0 given) (refl, refl)
 
@@ -97,6 +99,7 @@ module _ (k rule place : ℕ) (buffer : List ℕ) where
         )
 
     pub day_none :
-        (j : ℕ) → place ≡ length (short_days k rule) + j → (Nothing ≡ short_answer k rule place) × (buffer ≡ short_list k rule place buffer)
+        (j : ℕ) → place ≡ length (short_days k rule) + j →
+        (Nothing ≡ short_answer k rule place) × (buffer ≡ short_list k rule place buffer)
     unfolding short_answer short_list
     day_none j beyond = rw (none, le-ltb place (length (short_days k rule)) (omega (arith, beyond))) (refl, refl)

@@ -1,5 +1,6 @@
 // The short day at a place (RULES 15).
 #![tactic(auto)]
+
 mod back;
 mod candidate;
 pub mod day;

@@ -1,0 +1,21 @@
+-- `bring_back` opens the table, clears both stores and runs the first events. Assumes nothing.
+use Prim.Native.Nat.{ℕ, ◌*◌}
+use native.Mathlib.Nat.{sub-zero}
+use lib.ListN.{replicate, length-replicate}
+use Rattle.rules.specs.Ledger.{ledger_of}
+use Rattle.rules.specs.Encoding.{event_length, answer_length}
+use Rattle.enumeration.specs.ShortDay.{most_short}
+use Rattle.shortdays.proofs.BroughtBack.{brought_back}
+use Rattle.shortdays.proofs.back.bring_back.Goals as goal
+
+-- the words of the answers
+abbrev answers_length : ℕ
+answers_length = answer_length * most_short
+
+pub returns : goal.returns
+returns c =
+    let args = c.args in
+    brought_back args.rule args.list.now args.p c.requires.has_events (replicate answers_length 0)
+    (length-replicate {A = ℕ} answers_length 0) (ledger_of args.table.now args.base.now args.shadow.now)
+    c.requires.table_long c.requires.stores_fit c.open.ensures.leaves c.clear.ensures c.clear-2.ensures
+    (rw (sub-zero (event_length * args.p)) at c.run.ensures)

@@ -1,0 +1,185 @@
+-- `seek` and `seek_with` meet their contracts, by one proof for the two. Assumes nothing.
+use Prim.Native.Nat.{ℕ, ◌+◌, ◌-◌, ◌*◌, ◌≤◌}
+use native.Mathlib.Omega.{arith}
+use mathlib.Core.Path.{◌≡◌, sym, ap, ◌∙◌}
+use mathlib.Core.Bool.{cond}
+use mathlib.Core.List.{List}
+use lib.Dec.{eqb}
+use lib.ListN.{length, length-replicate}
+use Rattle.rules.specs.Card.{card_length}
+use Rattle.rules.specs.Event.{write_code}
+use Rattle.rules.specs.Ledger.{Ledger, ledger_of}
+use Rattle.rules.specs.Encoding.{event_length, event_at}
+use Rattle.rules.specs.Cause.{later_cause}
+use Rattle.rules.specs.Step.{Outcome, step}
+use Rattle.rules.proofs.Laws.EventBytes.{IsWhole}
+use Rattle.rules.proofs.Demand.Proper.{Proper}
+use Rattle.enumeration.specs.Lists.{candidate_count, code_tried, candidate, beginning_from, lists}
+use Rattle.shortdays.specs.declared.search.Sought.{Sought}
+use Rattle.shortdays.specs.declared.search.Sought.TheVariants.{Found, Past}
+use Rattle.shortdays.specs.Written.{with_event}
+use Rattle.shortdays.specs.Search.{Searching, IsSought}
+use Rattle.shortdays.proofs.Standing.{written_here, reached_proper, reached_again, searching_next}
+use Rattle.shortdays.proofs.Places.{past_refused, found_last, past_last, found_behind, kept_behind, past_behind}
+use Rattle.shortdays.proofs.Places.{none_left, found_first, past_first, sought_in_all}
+use Rattle.shortdays.proofs.search.+seek_seek_with.Goals as goal
+
+-- ---- `seek`
+
+pub seek-returns-then-c-eq-CANDIDATES : goal.seek-returns-then-c-eq-CANDIDATES
+seek-returns-then-c-eq-CANDIDATES t c =
+    let args = c.args in
+    none_left (lists (args.left - 1) (args.p + 1)) args.p (ledger_of args.table.now args.base.now args.shadow.now) args.c
+    c.if-c-eq-CANDIDATES.true
+
+pub seek-returns-in-Found : goal.seek-returns-in-Found
+seek-returns-in-Found t c =
+    let args = c.args in
+    let last = c.seek_with-sought.new in
+    found_first (lists (args.left - 1) (args.p + 1)) args.p (ledger_of args.table.now args.base.now args.shadow.now) args.c
+    (omega arith) args.left {t = ledger_of last.table last.base last.shadow} c.in-Found.ensures
+
+pub seek-returns-in-Past : goal.seek-returns-in-Past
+seek-returns-in-Past t c =
+    let args = c.args in
+    let mid = c.seek_with-sought.new in
+    let rest = c.seek in
+    past_first (lists (args.left - 1) (args.p + 1)) args.p (ledger_of args.table.now args.base.now args.shadow.now) args.c
+    (omega arith) args.left {t = ledger_of mid.table mid.base mid.shadow}
+    (ledger_of rest.new.table rest.new.base rest.new.shadow) rest.new.list rest.result
+    c.in-Past.ensures rest.ensures
+
+-- ---- `seek_with`
+
+tried_whole : (p c : ℕ) → IsWhole (candidate p c)
+tried_whole p c = length-replicate {A = ℕ} card_length (cond (eqb (code_tried c) write_code) (p + 1) 0)
+
+module _ {rule p left : ℕ} {list : List ℕ} {s : Ledger} (h : Searching rule p left list s) where
+  room : event_length * (p + 1) ≤ length list
+  room = omega (arith, h.long, h.some, h.few)
+
+  proper : Proper s
+  proper = reached_proper h.reached
+
+  -- the candidate is written, and its cause is asked
+  module _ (c : ℕ) {put : List ℕ} (written : put ≡ with_event list p (candidate p c)) where
+    put_here : event_at put (event_length * p) ≡ candidate p c
+    put_here =
+        ap (λ bytes. event_at bytes (event_length * p)) written
+        ∙ written_here list p (candidate p c) (tried_whole p c) room
+
+    asked :
+        {cause : ℕ} → cause ≡ later_cause s.table s.base (event_at put (event_length * p)) →
+        cause ≡ later_cause s.table s.base (candidate p c)
+    asked is = is ∙ ap (later_cause s.table s.base) put_here
+
+    -- it is taken
+    stepped : {o : Outcome} → o ≡ step s (event_at put (event_length * p)) → o.after ≡ (step s (candidate p c)).after
+    stepped is = ap (λ (o : Outcome). o.after) is ∙ ap (λ e. (step s e).after) put_here
+
+    -- what is sought behind it, among all lists that follow it
+    sought_behind :
+        (i : ℕ) {taken : Ledger} (last : Ledger) (after : List ℕ) {result : Sought} (r : Sought) → 1 ≤ left - 1 →
+        taken ≡ (step s (candidate p c)).after → result ≡ r →
+        IsSought (beginning_from (lists (left - 1 - 1) (p + 1 + 1)) (p + 1) taken (candidate_count - 0) 0) i (p + 1) (left - 1)
+        taken last put after result →
+        IsSought (lists (left - 1) (p + 1) (step s (candidate p c)).after) i (p + 1) (left - 1) (step s (candidate p c)).after
+        last (with_event list p (candidate p c)) after r
+    sought_behind i last after r more step_is result_is sought =
+        sought_in_all (left - 1) (p + 1) i (step s (candidate p c)).after last (with_event list p (candidate p c)) after r
+        more step_is written result_is sought
+
+pub seek_with-listed_cause-requires-clause-sound : goal.seek_with-listed_cause-requires-clause-sound
+seek_with-listed_cause-requires-clause-sound t c = (proper c.requires.searching).sound
+
+pub seek_with-listed_cause-requires-clause-base : goal.seek_with-listed_cause-requires-clause-base
+seek_with-listed_cause-requires-clause-base t c = (proper c.requires.searching).base_fits
+
+pub seek_with-returns-then-listed_cause-ne-NONE : goal.seek_with-returns-then-listed_cause-ne-NONE
+seek_with-returns-then-listed_cause-ne-NONE t c =
+    let args = c.args in
+    let h = c.requires.searching in
+    let cause = asked h args.c c.put_candidate.ensures c.listed_cause.ensures in
+    rw c.put_candidate.ensures
+    (past_refused args.list.now args.p (candidate args.p args.c) (tried_whole args.p args.c) (room h) (proper h)
+    (lists (args.left - 1) (args.p + 1)) args.i (λ none. c.if-listed_cause-ne-NONE.true (cause ∙ none)))
+
+pub seek_with-returns-then-i-eq0 : goal.seek_with-returns-then-i-eq0
+seek_with-returns-then-i-eq0 t c =
+    let args = c.args in
+    let h = c.requires.searching in
+    let cause = asked h args.c c.put_candidate.ensures c.listed_cause.ensures in
+    rw (c.if-i-eq0.true, c.if-left-eq1.true, c.put_candidate.ensures)
+    (found_last args.list.now args.p (candidate args.p args.c) (tried_whole args.p args.c) (room h) (proper h)
+    (sym cause ∙ c.if-listed_cause-ne-NONE.false))
+
+pub seek_with-returns-then-left-eq1 : goal.seek_with-returns-then-left-eq1
+seek_with-returns-then-left-eq1 t c =
+    let args = c.args in
+    let h = c.requires.searching in
+    let cause = asked h args.c c.put_candidate.ensures c.listed_cause.ensures in
+    rw (c.if-left-eq1.true, c.put_candidate.ensures)
+    (past_last args.list.now args.p (candidate args.p args.c) (tried_whole args.p args.c) (room h) (proper h)
+    (sym cause ∙ c.if-listed_cause-ne-NONE.false) args.i c.if-i-eq0.false)
+
+pub seek_with-listed_event-requires-clause-sound : goal.seek_with-listed_event-requires-clause-sound
+seek_with-listed_event-requires-clause-sound t c = (proper c.requires.searching).sound
+
+pub seek_with-listed_event-requires-clause-stores_fit : goal.seek_with-listed_event-requires-clause-stores_fit
+seek_with-listed_event-requires-clause-stores_fit t c =
+    let fits = proper c.requires.searching in
+    record { base_fits = fits.base_fits; shadow_fits = fits.shadow_fits }
+
+pub seek_with-seek-sought-requires : goal.seek_with-seek-sought-requires
+seek_with-seek-sought-requires t c =
+    let args = c.args in
+    let h = c.requires.searching in
+    let more : 1 ≤ args.left - 1 = omega arith in
+    let put = c.put_candidate.ensures in
+    let searching =
+    searching_next h (candidate args.p args.c) (tried_whole args.p args.c) (room h) more put
+    (stepped h args.c put c.listed_event.ensures)
+    in
+    (omega arith, (searching, omega arith))
+
+pub seek_with-bring_back-requires-clause-table_long : goal.seek_with-bring_back-requires-clause-table_long
+seek_with-bring_back-requires-clause-table_long t c =
+    c.seek-sought.auto.table ∙ c.listed_event.auto.table ∙ (proper c.requires.searching).sound.long
+
+pub seek_with-bring_back-requires-clause-stores_fit : goal.seek_with-bring_back-requires-clause-stores_fit
+seek_with-bring_back-requires-clause-stores_fit t c =
+    let fits = proper c.requires.searching in
+    record {
+      base_fits = c.seek-sought.auto.base ∙ c.listed_event.auto.base ∙ fits.base_fits;
+      shadow_fits = c.seek-sought.auto.shadow ∙ c.listed_event.auto.shadow ∙ fits.shadow_fits;
+    }
+
+pub seek_with-returns-in-Found : goal.seek_with-returns-in-Found
+seek_with-returns-in-Found t c =
+    let args = c.args in
+    let h = c.requires.searching in
+    let put = c.put_candidate.ensures in
+    let none = sym (asked h args.c put c.listed_cause.ensures) ∙ c.if-listed_cause-ne-NONE.false in
+    let more : 1 ≤ args.left - 1 = omega arith in
+    let last = c.seek-sought.new in
+    found_behind args.list.now args.p (candidate args.p args.c) (tried_whole args.p args.c) (room h) (proper h) none args.left
+    more
+    (sought_behind h args.c put args.i (ledger_of last.table last.base last.shadow) last.list Found more
+    (stepped h args.c put c.listed_event.ensures) c.in-Found.is c.seek-sought.ensures)
+
+pub seek_with-returns-in-Past : goal.seek_with-returns-in-Past
+seek_with-returns-in-Past t c =
+    let args = c.args in
+    let h = c.requires.searching in
+    let put = c.put_candidate.ensures in
+    let none = sym (asked h args.c put c.listed_cause.ensures) ∙ c.if-listed_cause-ne-NONE.false in
+    let more : 1 ≤ args.left - 1 = omega arith in
+    let whole = tried_whole args.p args.c in
+    let last = c.seek-sought.new in
+    let past =
+    sought_behind h args.c put args.i (ledger_of last.table last.base last.shadow) last.list (Past c.in-Past.j) more
+    (stepped h args.c put c.listed_event.ensures) c.in-Past.is c.seek-sought.ensures
+    in
+    let kept = kept_behind args.list.now args.p (candidate args.p args.c) whole (room h) (proper h) none args.left past in
+    past_behind args.list.now args.p (candidate args.p args.c) whole (room h) (proper h) none args.left past
+    (c.bring_back.ensures ∙ reached_again h.reached last.list kept)
