@@ -1,20 +1,27 @@
 -- `print_column` meets its contract: what is written is a part of the buffer, since any text fits it, and it is the text of what
 -- was read. Assumes nothing.
 use Rattle.std.proofs.Common.{ℕ, ◌+◌, arith, sym, subst, length-take-le}
+use Rattle.std.specs.Prelude.{Result, Ok, Err, OnErr}
 use lib.ListN.{length-replicate}
 use Rattle.std.specs.Io.KnownBytes.{Appends}
+use Rattle.streams.specs.Parts.{AppendsFront}
 use Rattle.charges.specs.List.{list_length}
 use Rattle.charges.specs.Column.{column_length}
+use Rattle.charges.specs.Printed.{PrintsPart}
 use Rattle.charges.proofs.Lines.{printed_fits}
 use Rattle.charges.proofs.Prints.{text_in_front, prints_column}
 use Rattle.charges.proofs.print.print_column.Goals as goal
+
+on_err : {A E P : Type 0} (r : Result A E) → P → OnErr r P
+on_err (Ok x) p = tt
+on_err (Err e) p = p
 
 pub slice_bounds-text-end : goal.slice_bounds-text-end
 slice_bounds-text-end g c =
     printed_fits _ _ (length-replicate {A = ℕ} column_length 0) (c.column-k.ensures.next, c.column-k.ensures.leaves)
 
-pub slice_bounds-write_all-end : goal.slice_bounds-write_all-end
-slice_bounds-write_all-end g c =
+pub slice_bounds-write_full-end : goal.slice_bounds-write_full-end
+slice_bounds-write_full-end g c =
     sym (length-take-le _ _
     (printed_fits _ _ (length-replicate {A = ℕ} column_length 0) (c.column-k.ensures.next, c.column-k.ensures.leaves)))
 
@@ -24,4 +31,18 @@ returns-clause-text g c =
     let whole = length-replicate {A = ℕ} (list_length + 1) 0 in
     prints_column _ _ _ _ _ c.in_ok-n.ensures.bytes
     (λ short. c.in_ok-n.ensures.end (omega (arith, short, c.in_ok-n.ensures.bound.1, c.read_full.auto.buf, whole)))
-    (subst (Appends _ _) put c.in_ok-write_all.ensures.bytes)
+    (subst (Appends _ _) put c.in_ok-write_full.ensures.bytes)
+
+pub returns-in_err-write_full-clause-failed : goal.returns-in_err-write_full-clause-failed
+returns-in_err-write_full-clause-failed g c =
+    let put = text_in_front _ _ (c.column-k.ensures.next, c.column-k.ensures.leaves) in
+    let part :
+        PrintsPart (g.R.Read.remaining c.args.from.now) (g.R.Read.remaining c.read_full.new.reader)
+        (g.W.Write.contents c.args.to.now) (g.W.Write.contents c.write_full.new.writer) =
+        record {
+          read = record { bytes = _; gone = c.in_ok-n.ensures.bytes };
+          list = _;
+          written = subst (AppendsFront _ _) put c.in_err-write_full.ensures.failed;
+        }
+    in
+    on_err _ part
