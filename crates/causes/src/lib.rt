@@ -1,4 +1,5 @@
 // Why a call is refused.
 #![tactic(auto)]
+
 mod busy;
 pub mod cause;

@@ -3,10 +3,8 @@
 use Rattle.std.proofs.Common.{◌≡◌, ℕ, ◌≤◌, List, [], ◌++◌, length, take, Some, None, refl, sym, subst, ◌∙◌, append-nil, arith}
 use native.Mathlib.Decide.{dec_le}
 use lib.ListN.{length-append}
-use lib.Seq.{take_at}
 use Rattle.std.specs.Prelude.{Option}
 use Rattle.std.specs.Io.KnownBytes.{Appends, Consumes, IsAtEnd}
-use Rattle.text.specs.Put.{put_at}
 use Rattle.charges.specs.List.{list_length}
 use Rattle.charges.specs.Column.{column_text}
 use Rattle.charges.specs.Printed.{PrintsColumn}
@@ -24,12 +22,6 @@ same_text front rest bytes whole ended = go (dec_le (length front) list_length)
         rw whole
         (worked_lists.long front (omega arith)
         ∙ sym (worked_lists.long (front ++ rest) (omega (arith, length-append front rest))))
-
--- the text at the front of its buffer
-pub text_in_front :
-    {k : ℕ} {after : List ℕ} (text buffer : List ℕ) → (k ≡ length text) × (after ≡ put_at buffer 0 text) → take k after ≡ text
-unfolding put_at
-text_in_front text buffer put = rw (put.0, put.1) (take_at text _ (length text) refl)
 
 pub prints_column :
     (left rest old new : Option (List ℕ)) (front : List ℕ) → Consumes left rest front

@@ -1,5 +1,10 @@
 // The day program: a day file from standard input, its listing to standard output.
 #![tactic(auto)]
-fn main() {
-    dayio::print_listing(libc::STDIN_FILENO);
+
+use dayio::print_listing;
+use std::io::Result;
+
+fn main(rt: HostRuntime) -> Result<()> {
+    print_listing(&mut rt.stdin(), &mut rt.stdout())?;
+    Ok(())
 }

@@ -147,9 +147,11 @@ module _ (s : Ledger) (opening file : List ℕ) where
     unfolding run_day_tree
     tree_size = ap (λ (d : DayTree). d.size) gives
 
+    pub tree_out : out ≡ put_at buffer 0 (tree_of_day s opening file)
+    unfolding run_day_tree
+    tree_out = ap (λ (d : DayTree). d.buffer) gives
+
     -- what is printed is a part of the program's buffer
     pub tree_printed_fits : length buffer ≡ listing_length → size ≤ length out
-    unfolding run_day_tree
     tree_printed_fits room =
-        let put : out ≡ put_at buffer 0 (tree_of_day s opening file) = ap (λ (d : DayTree). d.buffer) gives in
-        rw (put, put_at_length buffer (tree_of_day s opening file) 0 (omega (arith, tree_bound)), room, tree_size) tree_bound
+        rw (tree_out, put_at_length buffer (tree_of_day s opening file) 0 (omega (arith, tree_bound)), room, tree_size) tree_bound

@@ -165,7 +165,7 @@ module _ (s : Ledger) (file buffer : List ℕ) {size : ℕ} {out : List ℕ} {af
   unfolding run_day
   day_size = ap (λ (d : Day). d.size) gives
 
-  day_out : out ≡ put_at buffer 0 (listing s file)
+  pub day_out : out ≡ put_at buffer 0 (listing s file)
   unfolding run_day
   day_out = ap (λ (d : Day). d.buffer) gives
 

@@ -1,5 +1,6 @@
 // A day file, read: its reader, its faults and its opening cards.
 #![tactic(auto)]
+
 pub mod file;
 pub mod opening;
 mod raw;

@@ -1,4 +1,5 @@
 // Numbers: which records are needed, which numbers are free, and which of them a start gives.
 #![tactic(auto)]
+
 pub mod free;
 mod needed;

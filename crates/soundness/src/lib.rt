@@ -1,5 +1,6 @@
 // The test for a sound table, which every call makes.
 #![tactic(auto)]
+
 mod action;
 mod held;
 mod newest;

@@ -1,4 +1,5 @@
 // The two stores: where a card stands, and cards copied in and between them.
 #![tactic(auto)]
+
 pub mod cards;
 pub mod place;

@@ -1,5 +1,6 @@
 // A new table, and a table's three numbers: all that a caller asks of a table outside of events.
 #![tactic(auto)]
+
 ghost use Rattle.std.specs.Prelude.{◌≡◌};
 ghost use Rattle.rules.specs.Kind.{top_kind, sub_kind};
 ghost use Rattle.rules.specs.Table.{new_table, highest, counter};

@@ -5,7 +5,7 @@ use native.Mathlib.Nat.{add-zero, add_assoc}
 use native.Mathlib.Decide.{dec_le}
 use native.Mathlib.Omega.{arith}
 use native.Mathlib.Numerals.{add-one}
-use mathlib.Core.Path.{◌≡◌, ◌∙◌}
+use mathlib.Core.Path.{◌≡◌, refl, ◌∙◌}
 use mathlib.Core.List.{List, [], ◌∷◌, ◌++◌, append_assoc, append-nil}
 use lib.ListN.{length, take, drop, set, length-append, length-take, length-drop, drop_of_length-le, take-append-drop}
 use lib.Seq.{length-take-le, take_all, take_at, drop_at, drop-drop, set_split, append_snoc}
@@ -79,6 +79,12 @@ pub put_front :
 put_front buffer text more first second =
     let both = put_then buffer text more 0 (omega (arith, first.0), first.1) second in
     (omega (arith, both.0), both.1)
+
+-- and that front is the text
+pub text_in_front :
+    {k : ℕ} {after : List ℕ} (text buffer : List ℕ) → (k ≡ length text) × (after ≡ put_at buffer 0 text) → take k after ≡ text
+unfolding put_at
+text_in_front text buffer put = rw (put.0, put.1) (take_at text _ (length text) refl)
 
 -- no text at all
 pub put_at_nothing : (buffer : List ℕ) (at : ℕ) → put_at buffer at [] ≡ buffer

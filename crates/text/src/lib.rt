@@ -1,5 +1,6 @@
 // Text put into a buffer, piece by piece; each function answers where the next piece goes.
 #![tactic(auto)]
+
 ghost use Rattle.std.specs.Prelude.{◌≡◌, [], ◌∷◌, ◌+◌, length};
 ghost use Rattle.rules.specs.Amount.{amount_of};
 ghost use Rattle.text.specs.Text.{space, decimal, signed, hexadecimal, refused_line};

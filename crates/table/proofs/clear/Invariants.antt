@@ -1,13 +1,10 @@
 -- `clear` meets its contract. The loop's invariant: the first i words are 0, and the rest is as it was. The
 -- measure is what is left of the table. Assumes nothing.
 use Prim.Native.Nat.{◌-◌, ◌≤◌}
-use native.Mathlib.Omega.{arith}
-use mathlib.Core.Path.{◌≡◌, ap, ◌∙◌}
-use mathlib.Core.List.{[], ◌++◌, append-nil}
-use borrow.Author.Fill.{fill_more}
-use borrow.Author.Rules.{rules}
-use lib.ListN.{length, set, drop, replicate, length-set, drop_of_length-le}
-use Rattle.rules.specs.Table.{table_length, new_table}
+use mathlib.Core.Path.{◌≡◌}
+use mathlib.Core.List.{◌++◌}
+use lib.ListN.{length, drop, replicate}
+use Rattle.rules.specs.Table.{table_length}
 use Rattle.table.proofs.clear.Given as goal
 
 abbrev pub invariant-loop-i : goal.invariant-loop-i

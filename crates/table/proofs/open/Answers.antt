@@ -1,6 +1,5 @@
 -- `open` meets its contract: each exit is decided by the length, then by the rule. Assumes nothing.
 use mathlib.Core.Path.{refl, ap}
-use borrow.Author.Rules.{rules}
 use borrow.Author.Tests.{eq-eqb, ne_eqb}
 use lib.ListN.{set}
 use Rattle.rules.specs.Table.{table_length, with_word, rule_field, backward_rule, forward_rule, new_table_under}

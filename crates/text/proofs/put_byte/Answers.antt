@@ -1,7 +1,6 @@
 -- `put_byte` meets its contract: a byte stored at a place is a text of one byte put there. Assumes nothing.
 use native.Mathlib.Omega.{arith}
 use mathlib.Core.Path.{refl}
-use borrow.Author.Rules.{rules}
 use Rattle.text.proofs.Texts.{put_at_byte}
 use Rattle.text.proofs.put_byte.Goals as goal
 

@@ -1,8 +1,5 @@
 -- `put_hexadecimal` meets its contract: the digits written are the number's sixteen, so the text put is those. Assumes nothing.
 use mathlib.Core.Path.{sym, ◌∙◌}
-use lib.ListN.{take}
-use borrow.Author.Rules.{rules}
-use Rattle.text.specs.Text.{hexadecimal}
 use Rattle.text.proofs.Hexadecimals.{digits_are_hexadecimal}
 use Rattle.text.proofs.put_hexadecimal.Goals as goal
 

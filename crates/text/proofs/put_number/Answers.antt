@@ -1,8 +1,5 @@
 -- `put_number` meets its contract: the digits written are the number in decimal, so the text put is that. Assumes nothing.
 use mathlib.Core.Path.{sym, ◌∙◌}
-use lib.ListN.{take}
-use borrow.Author.Rules.{rules}
-use Rattle.text.specs.Text.{decimal}
 use Rattle.text.proofs.Decimals.{digits_are_decimal}
 use Rattle.text.proofs.put_number.Goals as goal
 

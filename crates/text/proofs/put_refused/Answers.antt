@@ -2,7 +2,6 @@
 -- before. Assumes nothing.
 use native.Mathlib.Nat.{zero-add}
 use native.Mathlib.Omega.{arith}
-use borrow.Author.Rules.{rules}
 use Rattle.text.proofs.Texts.{put_then}
 use Rattle.text.proofs.RefusedLine.{length_of_refused}
 use Rattle.text.proofs.put_refused.Goals as goal

@@ -3,7 +3,6 @@
 use native.Mathlib.Omega.{arith}
 use mathlib.Core.Path.{ap}
 use lib.ListN.{length}
-use borrow.Author.Rules.{rules}
 use Rattle.text.proofs.Texts.{put_then}
 use Rattle.text.proofs.Decimals.{signed_low, signed_high}
 use Rattle.text.proofs.put_signed.Goals as goal
@@ -29,7 +28,7 @@ put_number-requires-2 c =
 pub returns : goal.returns
 returns c =
     let put =
-        put_then _ _ _ _ (c.put_byte-next.ensures.next, c.put_byte-next.ensures.leaves)
-        (c.put_number-2.ensures.next, c.put_number-2.ensures.leaves)
+    put_then _ _ _ _ (c.put_byte-next.ensures.next, c.put_byte-next.ensures.leaves)
+    (c.put_number-2.ensures.next, c.put_number-2.ensures.leaves)
     in
     rw (signed_high c.args.word c.ranges.word.fits (omega arith)) record { next = put.0; leaves = put.1 }

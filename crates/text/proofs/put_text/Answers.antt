@@ -1,7 +1,6 @@
 -- `put_text` meets its contract: the text is copied over the whole of a part of the buffer, so the part's bytes become the
 -- text's, and no other byte changes. Assumes nothing.
 use mathlib.Core.Path.{refl}
-use borrow.Author.Rules.{rules}
 use Rattle.text.proofs.CopiedText.{copied_text}
 use Rattle.text.proofs.put_text.Goals as goal
 

@@ -1,12 +1,11 @@
 -- `put_word` leaves the store with the word put at its place. The loop's invariant: the first i bytes of the word stand in
 -- the store, from its place on, nothing else has changed, and the bytes from i on are those of what is left of the word.
 -- Assumes nothing.
-use Prim.Native.Nat.{◌-◌, ◌≤◌}
 use native.Mathlib.Omega.{arith}
 use native.Mathlib.Numerals.{add-one}
 use mathlib.Core.Path.{◌≡◌, refl, ◌∙◌}
-use lib.ListN.{length, drop, length-set}
-use lib.Seq.{paste, paste-zero, paste-suc, take_all}
+use lib.ListN.{length-set}
+use lib.Seq.{paste-zero, paste-suc, take_all}
 use Rattle.rules.specs.Amount.{bytes_low_first, amount_length}
 use Rattle.rules.proofs.Laws.Amounts.{bytes_low_first_length}
 use Rattle.amounts.specs.Word.{with_bytes}

@@ -2,15 +2,10 @@
 -- the store, from its place on, nothing else has changed, and the bytes from i on are those of what is left of the word.
 -- Assumes nothing.
 use Prim.Native.Nat.{◌-◌, ◌≤◌}
-use native.Mathlib.Omega.{arith}
-use native.Mathlib.Numerals.{add-one}
-use mathlib.Core.Path.{◌≡◌, refl, ◌∙◌}
-use lib.ListN.{length, drop, length-set}
-use lib.Seq.{paste, paste-zero, paste-suc, take_all}
+use mathlib.Core.Path.{◌≡◌}
+use lib.ListN.{length, drop}
+use lib.Seq.{paste}
 use Rattle.rules.specs.Amount.{bytes_low_first, amount_length}
-use Rattle.rules.proofs.Laws.Amounts.{bytes_low_first_length}
-use Rattle.amounts.specs.Word.{with_bytes}
-use Rattle.amounts.proofs.Words.{next_byte}
 use Rattle.amounts.proofs.bytes.put_word.Given as goal
 
 abbrev pub invariant-loop-i : goal.invariant-loop-i

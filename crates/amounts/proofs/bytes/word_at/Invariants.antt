@@ -1,11 +1,9 @@
 -- `word_at` reads the word at a place. The loop's invariant: the word is the number that its bytes from i on are, and below
 -- the power of as many bytes. Assumes nothing.
-use Prim.Native.Nat.{suc, ◌+◌, ◌-◌, ◌^◌, ◌≤◌, ◌<◌}
-use native.Mathlib.Omega.{arith}
-use mathlib.Core.Path.{◌≡◌, sym}
-use borrow.Author.Rules.{rules}
+use Prim.Native.Nat.{◌-◌, ◌^◌, ◌≤◌, ◌<◌}
+use mathlib.Core.Path.{◌≡◌}
 use Rattle.rules.specs.Amount.{byte_values, amount_length}
-use Rattle.amounts.proofs.Words.{word_from, no_byte_left, one_byte_more, larger, room_for_byte}
+use Rattle.amounts.proofs.Words.{word_from}
 use Rattle.amounts.proofs.bytes.word_at.Given as goal
 
 abbrev pub invariant-loop-i : goal.invariant-loop-i

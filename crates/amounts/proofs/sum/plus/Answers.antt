@@ -2,7 +2,6 @@
 use Prim.Native.Nat.{ℕ, ◌+◌, ◌/◌, ◌%◌}
 use native.Mathlib.Omega.{arith}
 use mathlib.Core.Path.{◌≡◌}
-use borrow.Author.Rules.{rules}
 use Rattle.amounts.specs.declared.sum.Sum.{Sum}
 use Rattle.amounts.specs.Sum.{word_values, first_negative, plus_word}
 use Rattle.amounts.proofs.sum.plus.Goals as goal

@@ -2,10 +2,8 @@
 -- (`Summed`). The measure is the moves left to the store. Assumes nothing.
 use native.Mathlib.Omega.{arith}
 use mathlib.Core.Path.{ap, ◌∙◌}
-use borrow.Author.Rules.{rules}
-use Rattle.rules.proofs.Laws.Walking.{moves_to_store}
 use Rattle.amounts.specs.Word.{word_at}
-use Rattle.ancestry.proofs.Summing.{Summed, summed_first, moves_few, room_left, nearer, summed_next, summed_last}
+use Rattle.ancestry.proofs.Summing.{summed_first, moves_few, room_left, nearer, summed_next, summed_last}
 use Rattle.ancestry.proofs.charge.seen_by.Goals as goal
 
 pub loop-at-init : goal.loop-at-init

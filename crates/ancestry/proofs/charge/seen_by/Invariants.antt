@@ -1,11 +1,7 @@
 -- `seen_by` meets its contract. The loop's invariant: the walk has come to `at`, with the pending sums before it summed up
 -- (`Summed`). The measure is the moves left to the store. Assumes nothing.
-use native.Mathlib.Omega.{arith}
-use mathlib.Core.Path.{ap, ◌∙◌}
-use borrow.Author.Rules.{rules}
 use Rattle.rules.proofs.Laws.Walking.{moves_to_store}
-use Rattle.amounts.specs.Word.{word_at}
-use Rattle.ancestry.proofs.Summing.{Summed, summed_first, moves_few, room_left, nearer, summed_next, summed_last}
+use Rattle.ancestry.proofs.Summing.{Summed}
 use Rattle.ancestry.proofs.charge.seen_by.Given as goal
 
 abbrev pub invariant-loop-at : goal.invariant-loop-at

@@ -1,6 +1,5 @@
 -- `seen_from` tells whether a sum is an amount, and gives its low word where it is, which is then its word. Assumes nothing.
 use native.Mathlib.Omega.{arith}
-use borrow.Author.Rules.{rules}
 use mathlib.Core.Path.{sym, ◌∙◌}
 use Rattle.amounts.proofs.Sums.{word_of_sum}
 use Rattle.ancestry.proofs.charge.seen_from.Goals as goal

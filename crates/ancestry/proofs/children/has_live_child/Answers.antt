@@ -1,12 +1,9 @@
 -- `has_live_child` meets its contract: whether any action is a live child is whether any from `m` on is, `m` the
 -- action at the loop's head, and the test decides `m` itself. Assumes nothing.
-use Prim.Native.Nat.{◌≤◌, ◌-◌}
 use native.Mathlib.Nat.{add-sub_cancel}
 use native.Mathlib.Omega.{arith}
-use mathlib.Core.Path.{◌≡◌, sym, ◌∙◌}
-use borrow.Author.Rules.{rules}
-use Rattle.rules.specs.Range.{up_from, any}
-use Rattle.rules.specs.Table.{is_live_child_of, actions, has_live_child}
+use mathlib.Core.Path.{sym, ◌∙◌}
+use Rattle.rules.specs.Table.{actions, has_live_child}
 use Rattle.rules.proofs.Laws.Ranges.{any_left_here, any_left_next, any_left_done}
 use Rattle.ancestry.proofs.children.has_live_child.Goals as goal
 

@@ -1,6 +1,5 @@
 -- `is_live_child` meets its contract: it tests the parent and then the state, as the definition does. Assumes nothing.
 use borrow.Author.Tests.{eq-eqb, ne_eqb}
-use borrow.Author.Rules.{rules}
 use Rattle.ancestry.proofs.children.is_live_child.Goals as goal
 
 pub returns-then-parent-p : goal.returns-then-parent-p

@@ -2,7 +2,6 @@
 -- for from the action's own on up. Assumes nothing.
 use native.Mathlib.Omega.{arith}
 use mathlib.Core.Path.{sym, ◌∙◌}
-use borrow.Author.Rules.{rules}
 use borrow.Author.Tests.{eq-eqb, ne_eqb}
 use Rattle.rules.specs.Table.{most_actions}
 use Rattle.rules.specs.Walk.{is_under}

@@ -57,14 +57,14 @@ returns-then-has_written t c =
 pub overflow_add-moves : goal.overflow_add-moves
 overflow_add-moves t c =
     let above = above_of _ _ _ c.args.moves _ c.requires.readable c.requires.plain (omega arith)
-        (sym c.has_written.ensures ∙ c.if-has_written.false) c.parent.ensures in
+    (sym c.has_written.ensures ∙ c.if-has_written.false) c.parent.ensures in
     omega (arith, ap (λ v. v.moves) above)
 
 pub climb-requires : goal.climb-requires
 climb-requires t c =
     let can = c.requires.readable in
     let above = above_of _ _ _ c.args.moves _ can c.requires.plain (omega arith)
-        (sym c.has_written.ensures ∙ c.if-has_written.false) c.parent.ensures in
+    (sym c.has_written.ensures ∙ c.if-has_written.false) c.parent.ensures in
     let step = moves_to_store_step c.args.table.now c.args.n (λ z. omega arith) (reaches can) in (
       rw c.parent.ensures (omega (arith, step)),
       (

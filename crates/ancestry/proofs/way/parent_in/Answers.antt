@@ -1,6 +1,5 @@
 -- `parent_in` meets its contract: behind the last row there is no parent. Assumes nothing.
 use mathlib.Core.Path.{sym}
-use borrow.Author.Rules.{rules}
 use Rattle.ancestry.proofs.WayUp.{parent_behind}
 use Rattle.ancestry.proofs.way.parent_in.Goals as goal
 

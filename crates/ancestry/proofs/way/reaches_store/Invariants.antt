@@ -1,12 +1,8 @@
 -- `reaches_store` meets its contract: whether the store is reached from `n` is whether it is from `at`, the action at the loop's
 -- head, in the moves that are left. Assumes nothing.
-use native.Mathlib.Omega.{arith}
-use mathlib.Core.Path.{◌≡◌, refl, sym, ◌∙◌}
-use borrow.Author.Rules.{rules}
+use mathlib.Core.Path.{◌≡◌}
 use Rattle.rules.specs.Table.{most_actions, parent_of}
 use Rattle.rules.specs.Walk.{climbs}
-use Rattle.rules.proofs.Laws.Climbing.{climbs_store}
-use Rattle.ancestry.proofs.WayUp.{way_on, way_ends}
 use Rattle.ancestry.proofs.way.reaches_store.Given as goal
 
 abbrev pub invariant-loop-at : goal.invariant-loop-at

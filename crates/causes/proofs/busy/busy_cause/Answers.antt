@@ -1,6 +1,5 @@
 -- `busy_cause` meets its contract: 9 where a child is live, and else what the queue says. Assumes nothing.
 use mathlib.Core.Path.{sym, ◌∙◌}
-use borrow.Author.Rules.{rules}
 use Rattle.causes.specs.Groups.{busy_causes}
 use Rattle.causes.proofs.busy.busy_cause.Goals as goal
 

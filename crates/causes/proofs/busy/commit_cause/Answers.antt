@@ -2,7 +2,6 @@
 -- then 19. Assumes nothing.
 use native.Mathlib.Omega.{arith}
 use mathlib.Core.Path.{sym, ◌∙◌}
-use borrow.Author.Rules.{rules}
 use borrow.Author.Tests.{eq-eqb, ne_eqb}
 use Rattle.queue.proofs.OwnQueue.{own_kind}
 use Rattle.causes.proofs.Grouped.{commit_refused, commit_passed}

@@ -1,6 +1,5 @@
 -- `enter_cause` meets its contract: the causes of a busy action come first, and then 19. Assumes nothing.
 use mathlib.Core.Path.{sym, ◌∙◌}
-use borrow.Author.Rules.{rules}
 use Rattle.causes.proofs.Grouped.{enter_refused, enter_passed}
 use Rattle.causes.proofs.busy.enter_cause.Goals as goal
 

@@ -1,7 +1,5 @@
 -- `judge_cause` meets its contract: 17 where the action isn't in the queue of its kind or is ready there, else 0. Assumes nothing.
 use mathlib.Core.Path.{sym, ◌∙◌}
-use borrow.Author.Rules.{rules}
-use Rattle.rules.proofs.Laws.Negated.{failed, held}
 use Rattle.queue.proofs.OwnQueue.{own_kind, sound_line, stands_once}
 use Rattle.causes.specs.Groups.{judge_causes}
 use Rattle.causes.proofs.busy.judge_cause.Goals as goal

@@ -1,7 +1,6 @@
 -- `account_cause` meets its contract: each exit gives the first cause that applies. Assumes nothing.
 use native.Mathlib.Omega.{arith}
 use mathlib.Core.Path.{sym, ◌∙◌}
-use borrow.Author.Rules.{rules}
 use borrow.Author.Tests.{le-leb}
 use Rattle.rules.specs.Card.{account_count}
 use Rattle.causes.specs.Groups.{account_causes}

@@ -1,5 +1,4 @@
 -- `card_cause` meets its contract: the code decides whose causes are asked. Assumes nothing.
-use borrow.Author.Rules.{rules}
 use borrow.Author.Tests.{ne_eqb}
 use Rattle.rules.specs.Event.{write_code, add_code}
 use Rattle.causes.specs.Groups.{card_causes}

@@ -1,14 +1,11 @@
 -- `event_cause` meets its contract: each exit gives the first cause that applies. Of a start, and of any other
 -- event of a live action, the causes that are left are asked by a function of their own. Assumes nothing.
-use borrow.Author.Rules.{rules}
 use borrow.Author.Tests.{le-leb, lt-leb, le-ltb, lt-ltb, ne_eqb}
 use native.Mathlib.Omega.{arith}
-use mathlib.Core.Path.{◌≡◌, sym, ◌∙◌}
-use mathlib.Core.Bool.{false}
+use mathlib.Core.Path.{sym, ◌∙◌}
 use Rattle.rules.specs.Table.{highest}
 use Rattle.rules.specs.Event.{start_code, judge_code}
 use Rattle.rules.specs.Cause.{early_causes}
-use Rattle.causes.specs.Groups.{is_misfit}
 use Rattle.causes.proofs.Grouped.{causes_of_start, causes_of_kind}
 use Rattle.causes.proofs.cause.event_cause.Goals as goal
 

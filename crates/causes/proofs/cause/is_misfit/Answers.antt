@@ -1,5 +1,4 @@
 -- `is_misfit` meets its contract: each way out is decided by the code. Assumes nothing.
-use borrow.Author.Rules.{rules}
 use borrow.Author.Tests.{ne_eqb}
 use Rattle.rules.specs.Event.{enter_code, judge_code}
 use Rattle.causes.proofs.cause.is_misfit.Goals as goal

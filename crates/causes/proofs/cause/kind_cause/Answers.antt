@@ -1,5 +1,4 @@
 -- `kind_cause` meets its contract: the code decides whose causes are asked. Assumes nothing.
-use borrow.Author.Rules.{rules}
 use borrow.Author.Tests.{ne_eqb}
 use Rattle.rules.specs.Event.{commit_code, abort_code, enter_code, judge_code}
 use Rattle.causes.specs.Groups.{kind_causes}

@@ -1,5 +1,4 @@
 -- `start_cause` meets its contract: each exit gives the first of the three causes that applies. Assumes nothing.
-use borrow.Author.Rules.{rules}
 use borrow.Author.Tests.{eq-eqb, ne_eqb}
 use mathlib.Core.Path.{◌≡◌, sym, ◌∙◌}
 use mathlib.Core.Bool.{false}
@@ -21,10 +20,10 @@ pub returns-then-next_number-eq-NO_NUMBER : goal.returns-then-next_number-eq-NO_
 unfolding start_causes
 returns-then-next_number-eq-NO_NUMBER c =
     let alive : is_not_live c.args.table.now c.args.number ≡ false =
-        elim c.if-number-ne-STORE.branch [
-          then-number-ne-STORE+else-not-is_live w ↦ rw (ne_eqb _ 0 w.if-number-ne-STORE.true, sym w.is_live.ensures ∙ w.if-not-is_live.false)
-        | else-number-ne-STORE w ↦ rw w.if-number-ne-STORE.false
-        ]
+    elim c.if-number-ne-STORE.branch [
+      | then-number-ne-STORE+else-not-is_live w ↦ rw (ne_eqb _ 0 w.if-number-ne-STORE.true, sym w.is_live.ensures ∙ w.if-not-is_live.false)
+      | else-number-ne-STORE w ↦ rw w.if-number-ne-STORE.false
+    ]
     in
     rw (alive, ← c.next_number.ensures, eq-eqb _ 0 c.if-next_number-eq-NO_NUMBER.true)
 
@@ -32,9 +31,9 @@ pub returns : goal.returns
 unfolding start_causes
 returns c =
     let alive : is_not_live c.args.table.now c.args.number ≡ false =
-        elim c.if-number-ne-STORE.branch [
-          then-number-ne-STORE+else-not-is_live w ↦ rw (ne_eqb _ 0 w.if-number-ne-STORE.true, sym w.is_live.ensures ∙ w.if-not-is_live.false)
-        | else-number-ne-STORE w ↦ rw w.if-number-ne-STORE.false
-        ]
+    elim c.if-number-ne-STORE.branch [
+      | then-number-ne-STORE+else-not-is_live w ↦ rw (ne_eqb _ 0 w.if-number-ne-STORE.true, sym w.is_live.ensures ∙ w.if-not-is_live.false)
+      | else-number-ne-STORE w ↦ rw w.if-number-ne-STORE.false
+    ]
     in
     rw (alive, ← c.next_number.ensures, ne_eqb _ 0 c.if-next_number-eq-NO_NUMBER.false) c.queued_cause.ensures

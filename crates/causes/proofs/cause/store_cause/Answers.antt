@@ -1,6 +1,5 @@
 -- `store_cause` meets its contract: each exit gives the first of the two causes that applies. Assumes nothing.
-use borrow.Author.Rules.{rules}
-use borrow.Author.Tests.{eq-eqb, ne_eqb, not-true, not-false}
+use borrow.Author.Tests.{eq-eqb, ne_eqb}
 use mathlib.Core.Path.{sym, ◌∙◌}
 use Rattle.rules.specs.Card.{base_length, shadow_length}
 use Rattle.rules.specs.Cause.{store_causes}

@@ -1,20 +1,17 @@
 -- `print_column` meets its contract: what is written is a part of the buffer, since any text fits it, and it is the text of what
 -- was read. Assumes nothing.
 use Rattle.std.proofs.Common.{ℕ, ◌+◌, arith, sym, subst, length-take-le}
-use Rattle.std.specs.Prelude.{Result, Ok, Err, OnErr}
 use lib.ListN.{length-replicate}
 use Rattle.std.specs.Io.KnownBytes.{Appends}
 use Rattle.streams.specs.Parts.{AppendsFront}
 use Rattle.charges.specs.List.{list_length}
 use Rattle.charges.specs.Column.{column_length}
 use Rattle.charges.specs.Printed.{PrintsPart}
+use Rattle.text.proofs.Texts.{text_in_front}
+use Rattle.streams.proofs.Errors.{on_err}
 use Rattle.charges.proofs.Lines.{printed_fits}
-use Rattle.charges.proofs.Prints.{text_in_front, prints_column}
+use Rattle.charges.proofs.Prints.{prints_column}
 use Rattle.charges.proofs.print.print_column.Goals as goal
-
-on_err : {A E P : Type 0} (r : Result A E) → P → OnErr r P
-on_err (Ok x) p = tt
-on_err (Err e) p = p
 
 pub slice_bounds-text-end : goal.slice_bounds-text-end
 slice_bounds-text-end g c =

@@ -1,12 +1,9 @@
 -- `all_rising` meets its contract: whether all opening accounts rise is whether all from `i` on do, `i` the entry at the
 -- loop's head, and the test decides `i` itself. Assumes nothing.
-use Prim.Native.Nat.{◌≤◌, ◌-◌}
 use native.Mathlib.Nat.{sub-zero}
 use native.Mathlib.Omega.{arith}
-use mathlib.Core.Path.{◌≡◌, sym, ◌∙◌}
-use Rattle.rules.specs.Range.{up_from, all}
+use mathlib.Core.Path.{sym, ◌∙◌}
 use Rattle.rules.proofs.Laws.Ranges.{all_left_here, all_left_next, all_left_done}
-use Rattle.dayread.specs.File.{is_rising}
 use Rattle.dayread.proofs.file.all_rising.Goals as goal
 
 pub loop-i-init : goal.loop-i-init

@@ -1,6 +1,5 @@
 -- `file_fault` meets its contract: the tests stand in the order of `fileFault`'s list, so each exit's number is what the
 -- list computes to once the tests that led there are put in. Assumes nothing.
-use borrow.Author.Rules.{rules}
 use borrow.Author.Tests.{lt-ltb, le-ltb, eq-eqb, ne_eqb}
 use Rattle.dayread.specs.File.{file_fault}
 use Rattle.dayread.proofs.file.file_fault.Goals as goal

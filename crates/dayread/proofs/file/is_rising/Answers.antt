@@ -1,6 +1,5 @@
 -- `is_rising` meets its contract: each exit is what `is_rising` computes to once the tests that led there are put in.
 -- Assumes nothing.
-use borrow.Author.Rules.{rules}
 use borrow.Author.Tests.{lt-ltb, le-ltb, eq-eqb, ne_eqb}
 use Rattle.dayread.proofs.file.is_rising.Goals as goal
 

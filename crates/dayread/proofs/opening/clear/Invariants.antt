@@ -1,12 +1,9 @@
 -- `clear` meets its contract: before `i` the store holds zeros, from `i` on what it held at entry, and it keeps its length.
 -- Assumes nothing.
 use Prim.Native.Nat.{◌≤◌, ◌-◌}
-use native.Mathlib.Omega.{arith}
-use mathlib.Core.Path.{◌≡◌, refl, ◌∙◌}
-use mathlib.Core.List.{◌++◌, append-nil}
-use lib.ListN.{length, drop, replicate, length-set}
-use lib.Seq.{drop-length}
-use borrow.Author.Fill.{fill_more}
+use mathlib.Core.Path.{◌≡◌}
+use mathlib.Core.List.{◌++◌}
+use lib.ListN.{length, drop, replicate}
 use Rattle.dayread.proofs.opening.clear.Given as goal
 
 abbrev pub invariant-loop-i : goal.invariant-loop-i

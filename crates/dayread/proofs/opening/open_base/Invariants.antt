@@ -1,17 +1,12 @@
 -- `open_base` meets its contract: the opening base store is the present store with the cards from `i` on put into it, `i` the
 -- entry at the loop's head; a file without a fault has each card whole and at a known account. Assumes nothing.
 use Prim.Native.Nat.{◌≤◌, ◌-◌}
-use native.Mathlib.Nat.{sub-zero}
-use native.Mathlib.Omega.{arith}
-use mathlib.Core.Path.{◌≡◌, sym, ◌∙◌}
+use mathlib.Core.Path.{◌≡◌}
 use lib.ListN.{length}
-use borrow.Author.Rules.{rules}
 use Rattle.rules.specs.Range.{up_from, fold}
 use Rattle.rules.specs.Card.{base_length, base_place, with_card}
-use Rattle.rules.proofs.Laws.Ranges.{fold_left_next, fold_left_done}
 use Rattle.dayread.specs.File.{account_at, opening_card}
 use Rattle.dayread.specs.Opening.{opening_base}
-use Rattle.dayread.proofs.Faultless.{faultless}
 use Rattle.dayread.proofs.opening.open_base.Given as goal
 
 abbrev pub invariant-loop-i : goal.invariant-loop-i

@@ -2,7 +2,6 @@
 -- put back into the store is the card put at its place. Assumes nothing.
 use Prim.Native.Nat.{◌+◌}
 use native.Mathlib.Omega.{arith}
-use borrow.Author.Rules.{rules}
 use Rattle.rules.specs.Card.{base_place}
 use Rattle.dayread.specs.File.{account_place}
 use Rattle.dayread.proofs.CopiedCard.{copied_card}

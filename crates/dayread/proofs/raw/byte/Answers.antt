@@ -1,7 +1,6 @@
 -- `byte` meets its contract: the result is the byte itself, and a byte is below 256. Assumes nothing.
 use native.Mathlib.Omega.{arith}
 use mathlib.Core.Path.{refl}
-use borrow.Author.Rules.{rules}
 use Rattle.dayread.proofs.raw.byte.Goals as goal
 
 pub overflow_cast-result : goal.overflow_cast-result

@@ -1,7 +1,6 @@
 -- `is_free` meets its contract: each way out is one outcome of the two tests. Assumes nothing.
 use mathlib.Core.Path.{sym, ap, ◌∙◌}
 use mathlib.Core.Bool.{not}
-use borrow.Author.Rules.{rules}
 use Rattle.rules.specs.Free.{is_free}
 use Rattle.numbers.proofs.free.is_free.Goals as goal
 

@@ -1,14 +1,10 @@
 -- `next_number` meets its contract: the lowest free number of all that were given is the lowest from `m` on, `m` the number at
 -- the loop's head, and the test decides `m` itself; where there is none, the highest number decides. Assumes nothing.
 use Prim.Native.Nat.{◌+◌, ◌-◌, ◌≤◌}
-use native.Mathlib.Nat.{add-sub_cancel}
-use native.Mathlib.Omega.{arith}
-use mathlib.Core.Path.{◌≡◌, sym, ◌∙◌}
-use borrow.Author.Rules.{rules}
+use mathlib.Core.Path.{◌≡◌}
 use Rattle.rules.specs.Range.{up_from}
 use Rattle.rules.specs.Table.{highest, actions}
 use Rattle.rules.specs.Free.{first_free}
-use Rattle.numbers.proofs.Lowest.{lowest_here, lowest_next, lowest_done, next_found, next_fresh, next_none}
 use Rattle.numbers.proofs.free.next_number.Given as goal
 
 abbrev pub invariant-loop-m : goal.invariant-loop-m

@@ -1,14 +1,10 @@
 -- `has_need` meets its contract: whether any action needs the record is whether any from `x` on does, `x` the action at the
 -- loop's head, and the test decides `x` itself. Assumes nothing.
 use Prim.Native.Nat.{◌+◌, ◌-◌, ◌≤◌}
-use native.Mathlib.Nat.{add-sub_cancel}
-use native.Mathlib.Omega.{arith}
-use mathlib.Core.Path.{◌≡◌, sym, ◌∙◌}
-use borrow.Author.Rules.{rules}
+use mathlib.Core.Path.{◌≡◌}
 use Rattle.rules.specs.Range.{up_from, any}
 use Rattle.rules.specs.Table.{highest, actions}
 use Rattle.rules.specs.Free as free
-use Rattle.rules.proofs.Laws.Ranges.{any_left_here, any_left_next, any_left_done}
 use Rattle.numbers.proofs.needed.has_need.Given as goal
 
 abbrev pub invariant-loop-x : goal.invariant-loop-x

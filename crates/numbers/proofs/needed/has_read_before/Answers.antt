@@ -1,14 +1,8 @@
 -- `has_read_before` meets its contract: whether any read is early is whether any from account `k` on is, `k` the account at the
 -- loop's head, and the test decides `k` itself. Assumes nothing.
-use Prim.Native.Nat.{◌≤◌, ◌-◌}
 use native.Mathlib.Omega.{arith}
-use mathlib.Core.Path.{◌≡◌, refl, sym, ◌∙◌}
-use mathlib.Core.Bool.{◌&&◌}
-use lib.Dec.{ltb}
-use borrow.Author.Rules.{rules}
+use mathlib.Core.Path.{refl, sym, ◌∙◌}
 use Rattle.rules.specs.Card.{accounts, account_count}
-use Rattle.rules.specs.Range.{up_from, any}
-use Rattle.rules.specs.Table.{kind_of, end_time, has_read, read_time}
 use Rattle.rules.specs.Free.{has_read_before}
 use Rattle.rules.proofs.Laws.Ranges.{any_left_here, any_left_next, any_left_done}
 use Rattle.numbers.proofs.needed.has_read_before.Goals as goal

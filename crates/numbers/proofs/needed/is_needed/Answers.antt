@@ -1,8 +1,6 @@
 -- `is_needed` meets its contract: each way out is one outcome of the three tests. Assumes nothing.
 use native.Mathlib.Omega.{arith}
-use borrow.Author.Rules.{rules}
 use Rattle.rules.specs.Free.{is_needed}
-use Rattle.rules.proofs.Laws.Negated.{failed, held}
 use mathlib.Core.Path.{◌∙◌, sym}
 use Rattle.numbers.proofs.needed.is_needed.Goals as goal
 

@@ -1,6 +1,5 @@
 -- `is_store_or_live` meets its contract: the store is told by its number, and of any other number the state decides. Assumes
 -- nothing.
-use borrow.Author.Rules.{rules}
 use borrow.Author.Tests.{eq-eqb, ne_eqb}
 use Rattle.numbers.proofs.needed.is_store_or_live.Goals as goal
 

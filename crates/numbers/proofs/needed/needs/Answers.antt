@@ -1,7 +1,5 @@
 -- `rules` meets its contract: each way out is one outcome of the three tests. Assumes nothing.
-use borrow.Author.Rules.{rules}
 use Rattle.rules.specs.Free as free
-use Rattle.rules.proofs.Laws.Negated.{failed, held}
 use mathlib.Core.Path.{◌∙◌, sym}
 use Rattle.numbers.proofs.needed.needs.Goals as goal
 

@@ -1,5 +1,4 @@
 -- `move_entry` puts the three words that it read, which are the entry. Assumes nothing.
-use borrow.Author.Rules.{rules}
 use Rattle.rules.specs.Queue.{entry_at}
 use Rattle.queue.proofs.change.move_entry.Goals as goal
 

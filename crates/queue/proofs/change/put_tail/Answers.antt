@@ -1,6 +1,5 @@
 -- `put_tail` meets its contract: the entries before the tail are put again as they stand (`tail_put`). Assumes nothing.
 use mathlib.Core.Path.{sym}
-use borrow.Author.Rules.{rules}
 use Rattle.queue.proofs.Putting.{tail_put}
 use Rattle.queue.proofs.change.put_tail.Goals as goal
 

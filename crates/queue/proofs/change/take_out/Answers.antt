@@ -1,11 +1,7 @@
 -- `take_out` meets its contract. The loop's invariant: those who stay have closed up as far as position `i`, `kept` of them
 -- (`Closed`). The measure is what is left of the positions. Assumes nothing.
-use Prim.Native.Nat.{◌-◌}
 use native.Mathlib.Omega.{arith}
-use mathlib.Core.Logic.{⊎_elim}
-use borrow.Author.Rules.{rules}
-use Rattle.rules.proofs.Laws.Negated.{failed, held}
-use Rattle.queue.proofs.Closing.{Closed, closed_first, live_climb_kept, known_kept, closed_over, closed_here, closed_last}
+use Rattle.queue.proofs.Closing.{closed_first, live_climb_kept, known_kept, closed_over, closed_here, closed_last}
 use mathlib.Core.Path.{sym, ◌∙◌}
 use Rattle.queue.proofs.change.take_out.Goals as goal
 use Rattle.queue.proofs.change.take_out.Goals.{then-not-is_aborted_by, else-not-is_aborted_by}
@@ -29,12 +25,12 @@ loop-i-preserved c =
     let number = c.entry_number-m.ensures in
     let tested = c.is_aborted_by.ensures in
     elim c.if-not-is_aborted_by.branch [
-      then-not-is_aborted_by w ↦
-        rw (w.table-is, w.kept-is, w.move_entry.ensures)
-        (closed_here _ _ _ closed c.requires.has_line.known c.requires.live_climb c.requires.are_known (omega arith) number
-        (sym tested ∙ w.if-not-is_aborted_by.true))
-    | else-not-is_aborted_by w ↦
-        rw (w.table-is, w.kept-is)
-        (closed_over _ _ _ closed c.requires.has_line.known c.requires.live_climb c.requires.are_known (omega arith) number
-        (sym tested ∙ w.if-not-is_aborted_by.false))
+      | then-not-is_aborted_by w ↦
+          rw (w.table-is, w.kept-is, w.move_entry.ensures)
+          (closed_here _ _ _ closed c.requires.has_line.known c.requires.live_climb c.requires.are_known (omega arith) number
+          (sym tested ∙ w.if-not-is_aborted_by.true))
+      | else-not-is_aborted_by w ↦
+          rw (w.table-is, w.kept-is)
+          (closed_over _ _ _ closed c.requires.has_line.known c.requires.live_climb c.requires.are_known (omega arith) number
+          (sym tested ∙ w.if-not-is_aborted_by.false))
     ]

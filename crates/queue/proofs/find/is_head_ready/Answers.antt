@@ -1,6 +1,5 @@
 -- `is_head_ready` meets its contract: it asks the length and then the head's readiness, as the definition does. Assumes nothing.
 use native.Mathlib.Omega.{arith}
-use borrow.Author.Rules.{rules}
 use borrow.Author.Tests.{le-ltb, lt-ltb}
 use Rattle.rules.specs.Queue.{entry_at, is_head_ready}
 use Rattle.queue.proofs.find.is_head_ready.Goals as goal

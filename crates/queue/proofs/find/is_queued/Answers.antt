@@ -1,6 +1,5 @@
 -- `is_queued` meets its contract: a queued action has a position. Assumes nothing.
 use mathlib.Core.Path.{sym}
-use borrow.Author.Rules.{rules}
 use Rattle.queue.proofs.Positions.{queued_position}
 use Rattle.queue.proofs.find.is_queued.Goals as goal
 

@@ -1,6 +1,5 @@
 -- `is_waiting` meets its contract: it asks the two queues in turn, as the definition does. Assumes nothing.
 use mathlib.Core.Path.{sym, ◌∙◌}
-use borrow.Author.Rules.{rules}
 use Rattle.rules.specs.Range.{up_from, any}
 use Rattle.rules.specs.Kind.{kinds}
 use Rattle.rules.specs.Queue.{is_waiting}

@@ -1,7 +1,6 @@
 -- `has_card` meets its contract: nobody has a card for a charge account, and of another account each write makes one. Assumes
 -- nothing.
 use mathlib.Core.Path.{sym, ◌∙◌}
-use borrow.Author.Rules.{rules}
 use Rattle.rules.proofs.Laws.Charges.{has_card_below, has_card_charge}
 use Rattle.rows.proofs.fields.has_card.Goals as goal
 

@@ -1,6 +1,5 @@
 -- A table has a rule where the word is that of rule 1 or that of rule 2. Assumes nothing.
 use mathlib.Core.Path.{sym, ◌∙◌}
-use borrow.Author.Rules.{rules}
 use Rattle.rules.specs.Table.{word, rule_field}
 use Rattle.rows.proofs.RuleWords.{backward_word, other_word}
 use Rattle.rows.proofs.fields.has_rule.Goals as goal

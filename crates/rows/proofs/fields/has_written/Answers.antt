@@ -1,5 +1,4 @@
 -- An account is in the write set where its entry isn't 0. Assumes nothing.
-use borrow.Author.Rules.{rules}
 use Rattle.rows.proofs.fields.has_written.Goals as goal
 
 pub returns : goal.returns

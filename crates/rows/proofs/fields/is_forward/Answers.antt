@@ -1,5 +1,4 @@
 -- A table judges forwards where its rule's word is that of rule 2. Assumes nothing.
-use borrow.Author.Rules.{rules}
 use Rattle.rules.specs.Table.{word, rule_field}
 use Rattle.rows.proofs.RuleWords.{less_one}
 use Rattle.rows.proofs.fields.is_forward.Goals as goal

@@ -1,5 +1,4 @@
 -- An action is live where its state is the word for it. Assumes nothing.
-use borrow.Author.Rules.{rules}
 use Rattle.rows.proofs.fields.is_live.Goals as goal
 
 pub returns : goal.returns

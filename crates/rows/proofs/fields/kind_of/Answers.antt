@@ -1,5 +1,4 @@
 -- An action's kind is that of its parent's children. Assumes nothing.
-use borrow.Author.Rules.{rules}
 use Rattle.rows.proofs.fields.kind_of.Goals as goal
 
 pub returns : goal.returns

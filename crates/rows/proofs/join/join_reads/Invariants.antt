@@ -1,17 +1,13 @@
 -- `join_reads` meets its contract: the reads made from the table at entry are the reads made in place (`Joining`), and of those
 -- the accounts from `k` on are left to join in the present table, `k` the account at the loop's head. Assumes nothing.
 use Prim.Native.Nat.{◌≤◌, ◌-◌}
-use native.Mathlib.Omega.{arith}
-use mathlib.Core.Path.{◌≡◌, refl, sym, ◌∙◌}
+use mathlib.Core.Path.{◌≡◌}
 use lib.ListN.{length}
-use borrow.Author.Rules.{rules}
-use Rattle.rules.specs.Card.{accounts, account_count}
+use Rattle.rules.specs.Card.{account_count}
 use Rattle.rules.specs.Range.{up_from, fold}
 use Rattle.rules.specs.Table.{with_reads}
 use Rattle.rules.specs.Commit.{joined_read, joined_time}
-use Rattle.rules.proofs.Laws.Ranges.{fold_left_next, fold_left_done}
 use Rattle.rows.specs.Times.{with_joined_read}
-use Rattle.rows.proofs.Joining.{reads_in_place}
 use Rattle.rows.proofs.join.join_reads.Given as goal
 
 abbrev pub invariant-loop-k : goal.invariant-loop-k

@@ -1,6 +1,5 @@
 -- `join_sets` meets its contract: the reads joined, then the writes, are both joined from the table at entry (`Joining`).
 -- Assumes nothing.
-use borrow.Author.Rules.{rules}
 use Rattle.rows.proofs.Joining.{both_joined}
 use Rattle.rows.proofs.join.join_sets.Goals as goal
 

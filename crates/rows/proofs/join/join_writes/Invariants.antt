@@ -2,16 +2,12 @@
 -- of those the accounts from `k` on are left to join in the present table, `k` the account at the loop's head. Assumes
 -- nothing.
 use Prim.Native.Nat.{◌≤◌, ◌-◌}
-use native.Mathlib.Omega.{arith}
-use mathlib.Core.Path.{◌≡◌, refl, sym, ◌∙◌}
+use mathlib.Core.Path.{◌≡◌}
 use lib.ListN.{length}
-use borrow.Author.Rules.{rules}
 use Rattle.rules.specs.Card.{accounts, account_count}
 use Rattle.rules.specs.Range.{up_from, fold}
 use Rattle.rules.specs.Table.{with_fields, write_field, with_write}
 use Rattle.rules.specs.Commit.{joined_write}
-use Rattle.rules.proofs.Laws.Ranges.{fold_left_next, fold_left_done}
-use Rattle.rows.proofs.Joining.{writes_in_place}
 use Rattle.rows.proofs.join.join_writes.Given as goal
 
 abbrev pub invariant-loop-k : goal.invariant-loop-k

@@ -1,6 +1,5 @@
 -- `joined_write` meets its contract: its two exits are the definition's two cases. Assumes nothing.
 use mathlib.Core.Path.{sym, ◌∙◌}
-use borrow.Author.Rules.{rules}
 use Rattle.rows.proofs.join.joined_write.Goals as goal
 
 pub returns-then-has_written : goal.returns-then-has_written

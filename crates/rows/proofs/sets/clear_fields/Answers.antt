@@ -1,15 +1,11 @@
 -- `clear_fields` meets its contract: the fields of the accounts from `from` on, cleared in the table at entry, are those of the
 -- accounts from `k` on cleared in the present table, `k` the account at the loop's head. Assumes nothing.
-use Prim.Native.Nat.{◌+◌, ◌≤◌, ◌-◌}
 use native.Mathlib.Omega.{arith}
-use mathlib.Core.Path.{◌≡◌, refl, sym, ◌∙◌}
-use lib.ListN.{length}
+use mathlib.Core.Path.{refl, sym, ◌∙◌}
 use borrow.Author.Rules.{rules}
 use Rattle.rules.specs.Card.{account_count}
-use Rattle.rules.specs.Range.{up_from, fold}
-use Rattle.rules.specs.Table.{with_word, with_fields}
+use Rattle.rules.specs.Table.{with_fields}
 use Rattle.rules.proofs.Laws.Ranges.{fold_left_next, fold_left_done}
-use Rattle.rows.specs.Row.{accounts_from}
 use Rattle.rows.proofs.sets.clear_fields.Goals as goal
 
 pub loop-k-init : goal.loop-k-init

@@ -1,5 +1,4 @@
 -- `clear_kept` clears the fields that the definition clears. Assumes nothing.
-use borrow.Author.Rules.{rules}
 use Rattle.rules.specs.Card.{charge_accounts}
 use Rattle.rules.specs.Table.{without_kept}
 use Rattle.rows.proofs.sets.clear_kept.Goals as goal

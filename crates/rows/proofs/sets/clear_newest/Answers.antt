@@ -1,5 +1,4 @@
 -- `clear_newest` clears the fields that the definition clears. Assumes nothing.
-use borrow.Author.Rules.{rules}
 use Rattle.rules.specs.Card.{accounts}
 use Rattle.rules.specs.Table.{without_newest}
 use Rattle.rows.proofs.sets.clear_newest.Goals as goal

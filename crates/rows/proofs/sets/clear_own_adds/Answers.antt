@@ -1,5 +1,4 @@
 -- `clear_own_adds` clears the fields that the definition clears. Assumes nothing.
-use borrow.Author.Rules.{rules}
 use Rattle.rules.specs.Card.{charge_accounts}
 use Rattle.rules.specs.Table.{without_adds}
 use Rattle.rows.proofs.sets.clear_own_adds.Goals as goal

@@ -1,6 +1,5 @@
 -- `clear_sets` clears the fields of the read set, of the times beside it, of the write set and of the pending sums, as the
 -- definition does. Assumes nothing.
-use borrow.Author.Rules.{rules}
 use Rattle.rules.specs.Card.{accounts, charge_accounts}
 use Rattle.rules.specs.Table.{with_reads, with_both_sets, with_sets}
 use Rattle.rows.proofs.sets.clear_sets.Goals as goal

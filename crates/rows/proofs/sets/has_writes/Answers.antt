@@ -1,12 +1,9 @@
 -- `has_writes` meets its contract: whether any account is in the write set is whether any account from `k` on is, `k` the
 -- account at the loop's head, and the test decides `k` itself. Assumes nothing.
-use Prim.Native.Nat.{◌≤◌, ◌-◌}
 use native.Mathlib.Omega.{arith}
-use mathlib.Core.Path.{◌≡◌, refl, sym, ◌∙◌}
-use borrow.Author.Rules.{rules}
+use mathlib.Core.Path.{refl, sym, ◌∙◌}
 use Rattle.rules.specs.Card.{accounts, account_count}
-use Rattle.rules.specs.Range.{up_from, any}
-use Rattle.rules.specs.Table.{has_written, has_writes}
+use Rattle.rules.specs.Table.{has_writes}
 use Rattle.rules.proofs.Laws.Ranges.{any_left_here, any_left_next, any_left_done}
 use Rattle.rows.proofs.sets.has_writes.Goals as goal
 

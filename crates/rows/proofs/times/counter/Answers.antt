@@ -1,7 +1,6 @@
 -- `counter` meets its contract: each exit is the counter of one kind. Assumes nothing.
 use native.Mathlib.Omega.{arith}
 use mathlib.Core.Path.{◌≡◌, sym}
-use borrow.Author.Rules.{rules}
 use Rattle.rules.specs.Kind.{sub_kind}
 use Rattle.rows.proofs.times.counter.Goals as goal
 

@@ -1,8 +1,6 @@
 -- `has_parent_alive` meets its contract: each exit is decided by the tests that led there, in the definition's order.
 -- Assumes nothing.
-use borrow.Author.Rules.{rules}
 use borrow.Author.Tests.{eq-eqb, ne_eqb}
-use Rattle.rules.proofs.Laws.Negated.{failed, held}
 use mathlib.Core.Path.{◌∙◌, sym}
 use Rattle.soundness.proofs.action.has_parent_alive.Goals as goal
 

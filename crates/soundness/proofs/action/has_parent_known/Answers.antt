@@ -1,5 +1,4 @@
 -- `has_parent_known` meets its contract: the test is the definition's own. Assumes nothing.
-use borrow.Author.Rules.{rules}
 use Rattle.soundness.proofs.action.has_parent_known.Goals as goal
 
 pub returns : goal.returns

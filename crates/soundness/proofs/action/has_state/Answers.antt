@@ -1,5 +1,4 @@
 -- `has_state` meets its contract: it tries the three states in the definition's order. Assumes nothing.
-use borrow.Author.Rules.{rules}
 use borrow.Author.Tests.{eq-eqb, ne_eqb}
 use Rattle.soundness.proofs.action.has_state.Goals as goal
 

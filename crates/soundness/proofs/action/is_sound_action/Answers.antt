@@ -4,7 +4,6 @@ use native.Mathlib.Omega.{arith}
 use borrow.Author.Rules.{rules}
 use borrow.Author.Tests.{leb-true}
 use Rattle.rules.specs.Sound.{is_sound_action}
-use Rattle.rules.proofs.Laws.Negated.{failed, held}
 use mathlib.Core.Path.{◌∙◌, sym}
 use Rattle.soundness.proofs.action.is_sound_action.Goals as goal
 

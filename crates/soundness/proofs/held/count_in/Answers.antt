@@ -1,6 +1,5 @@
 -- `count_in` meets its contract: the end times are raised where the test holds, and stay otherwise. Assumes nothing.
 use mathlib.Core.Path.{sym, ◌∙◌}
-use borrow.Author.Rules.{rules}
 use Rattle.soundness.specs.Held.{counted_in}
 use Rattle.soundness.proofs.held.count_in.Goals as goal
 

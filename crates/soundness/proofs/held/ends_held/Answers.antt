@@ -1,14 +1,11 @@
 -- `ends_held` meets its contract: the end times once all actions have been counted in are the present ones once those from `m` on
 -- have been, `m` the action at the loop's head. Assumes nothing.
-use Prim.Native.Nat.{◌≤◌, ◌-◌}
 use native.Mathlib.Nat.{add-sub_cancel}
 use native.Mathlib.Omega.{arith}
-use mathlib.Core.Path.{◌≡◌, sym, ◌∙◌}
-use borrow.Author.Rules.{rules}
-use Rattle.rules.specs.Range.{up_from, fold}
+use mathlib.Core.Path.{sym, ◌∙◌}
 use Rattle.rules.specs.Table.{actions}
 use Rattle.rules.proofs.Laws.Ranges.{fold_left_next, fold_left_done}
-use Rattle.soundness.specs.Held.{counted_in, ends_held}
+use Rattle.soundness.specs.Held.{ends_held}
 use Rattle.soundness.proofs.held.ends_held.Goals as goal
 
 pub loop-m-init : goal.loop-m-init

@@ -1,5 +1,4 @@
 -- `is_committed_child` meets its contract: the two tests are the definition's own, in its order. Assumes nothing.
-use borrow.Author.Rules.{rules}
 use borrow.Author.Tests.{eq-eqb, ne_eqb}
 use Rattle.soundness.proofs.held.is_committed_child.Goals as goal
 

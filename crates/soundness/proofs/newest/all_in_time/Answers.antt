@@ -1,15 +1,9 @@
 -- `all_in_time` meets its contract: whether the clause holds of all parents is whether it holds of all from `p` on, `p` the
 -- parent at the loop's head, and the test decides `p` itself. Assumes nothing.
-use Prim.Native.Nat.{◌-◌}
 use native.Mathlib.Nat.{sub-zero}
-use native.Mathlib.Omega.{arith}
-use mathlib.Core.Path.{◌≡◌, sym, ◌∙◌}
-use borrow.Author.Rules.{rules}
-use Rattle.rules.specs.Range.{up_from, all}
+use mathlib.Core.Path.{sym, ◌∙◌}
 use Rattle.rules.specs.Table.{parents}
-use Rattle.rules.specs.Sound.{is_newest_in_time}
 use Rattle.rules.proofs.Laws.Ranges.{all_left_here, all_left_next, all_left_done}
-use Rattle.rules.proofs.Laws.Negated.{failed, held}
 use Rattle.soundness.proofs.newest.all_in_time.Goals as goal
 
 pub loop-p-init : goal.loop-p-init

@@ -1,7 +1,6 @@
 -- `are_newest_in_time` meets its contract: where no action has a newest end time the store's decide, and otherwise each parent's.
 -- Assumes nothing.
 use mathlib.Core.Path.{sym, ◌∙◌}
-use borrow.Author.Rules.{rules}
 use Rattle.soundness.proofs.NewestWords.{store_alone}
 use Rattle.soundness.proofs.newest.are_newest_in_time.Goals as goal
 

@@ -1,15 +1,10 @@
 -- `have_no_newest` meets its contract: whether no action has a newest end time is whether none from `n` on has, `n` the action at the
 -- loop's head, and the test decides `n` itself. Assumes nothing.
-use Prim.Native.Nat.{◌≤◌, ◌-◌}
 use native.Mathlib.Nat.{add-sub_cancel}
 use native.Mathlib.Omega.{arith}
-use mathlib.Core.Path.{◌≡◌, sym, ◌∙◌}
-use borrow.Author.Rules.{rules}
-use Rattle.rules.specs.Range.{up_from, all}
+use mathlib.Core.Path.{sym, ◌∙◌}
 use Rattle.rules.specs.Table.{actions}
 use Rattle.rules.proofs.Laws.Ranges.{all_left_here, all_left_next, all_left_done}
-use Rattle.rules.proofs.Laws.Negated.{failed, held}
-use Rattle.rows.specs.Ends.{has_no_newest}
 use Rattle.soundness.proofs.newest.have_no_newest.Goals as goal
 
 pub loop-n-init : goal.loop-n-init

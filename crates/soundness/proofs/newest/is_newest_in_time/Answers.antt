@@ -1,19 +1,11 @@
 -- `is_newest_in_time` meets its contract: whether all newest end times are in time is whether all from account `k` on are, `k` the account
 -- at the loop's head, and the test decides `k` itself. Assumes nothing.
-use Prim.Native.Nat.{◌-◌}
-use native.Mathlib.Omega.{arith}
-use mathlib.Core.Path.{◌≡◌, sym, ◌∙◌}
-use lib.Dec.{leb}
+use mathlib.Core.Path.{sym, ◌∙◌}
 use borrow.Author.Rules.{rules}
-use Rattle.rules.specs.Range.{up_from, all}
-use Rattle.rules.specs.Card.{account_count, accounts}
-use Rattle.rules.specs.Kind.{kind_under}
-use Rattle.rules.specs.Table.{counter, newest}
+use Rattle.rules.specs.Card.{accounts}
 use Rattle.rules.specs.Sound.{is_newest_in_time}
 use Rattle.rules.proofs.Laws.Kinds.{kind_known}
 use Rattle.rules.proofs.Laws.Ranges.{all_left_here, all_left_next, all_left_done}
-use Rattle.rules.proofs.Laws.Negated.{failed, held}
-use Rattle.rows.specs.Times.{kind_in, number_in}
 use Rattle.soundness.proofs.newest.is_newest_in_time.Goals as goal
 
 pub counter-last-requires : goal.counter-last-requires

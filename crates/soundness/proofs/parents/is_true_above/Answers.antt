@@ -1,8 +1,6 @@
 -- `is_true_above` meets its contract: of an action that isn't live nothing is asked, who is marked passes, and any other parent is
 -- tested. Assumes nothing.
 use native.Mathlib.Omega.{arith}
-use borrow.Author.Rules.{rules}
-use Rattle.rules.proofs.Laws.Negated.{failed, held}
 use Rattle.soundness.specs.Passed.{is_true_above}
 use mathlib.Core.Path.{◌∙◌, sym}
 use Rattle.soundness.proofs.parents.is_true_above.Goals as goal

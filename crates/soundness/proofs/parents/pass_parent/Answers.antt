@@ -1,6 +1,5 @@
 -- `pass_parent` meets its contract: the parent is marked where the action is live. Assumes nothing.
 use mathlib.Core.Path.{sym, ◌∙◌}
-use borrow.Author.Rules.{rules}
 use Rattle.soundness.specs.Passed.{with_passed}
 use Rattle.soundness.proofs.parents.pass_parent.Goals as goal
 

@@ -1,17 +1,13 @@
 -- `all_pending_written` meets its contract: whether the clause holds of all charge accounts is whether it holds of all from `k`
 -- on, `k` the account at the loop's head, and the test decides `k` itself. Assumes nothing.
 use Prim.Native.Nat.{◌-◌, ◌≤◌}
-use native.Mathlib.Omega.{arith}
-use mathlib.Core.Path.{◌≡◌, refl, sym, ◌∙◌}
+use mathlib.Core.Path.{◌≡◌}
 use mathlib.Core.Bool.{◌||◌}
 use lib.Dec.{eqb}
-use borrow.Author.Rules.{rules}
 use Rattle.rules.specs.Range.{up_from, all}
-use Rattle.rules.specs.Card.{account_count, first_charge, charge_accounts}
+use Rattle.rules.specs.Card.{account_count, first_charge}
 use Rattle.rules.specs.Table.{has_written, pending_word}
 use Rattle.rules.specs.Sound.{has_pending_written}
-use Rattle.rules.proofs.Laws.Ranges.{all_left_here, all_left_next, all_left_done}
-use Rattle.rules.proofs.Laws.Negated.{failed, held}
 use Rattle.soundness.proofs.pending.all_pending_written.Given as goal
 
 abbrev pub invariant-loop-k : goal.invariant-loop-k

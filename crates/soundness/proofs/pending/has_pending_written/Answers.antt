@@ -1,7 +1,6 @@
 -- `has_pending_written` meets its contract: where no sum is pending the clause holds, and otherwise the test of each account
 -- decides. Assumes nothing.
 use mathlib.Core.Path.{sym, ◌∙◌}
-use borrow.Author.Rules.{rules}
 use Rattle.soundness.proofs.PendingWords.{no_sum_written}
 use Rattle.soundness.proofs.pending.has_pending_written.Goals as goal
 

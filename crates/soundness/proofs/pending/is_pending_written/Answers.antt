@@ -1,6 +1,5 @@
 -- `is_pending_written` meets its contract: that the definition asks the write set first makes no difference. Assumes nothing.
 use mathlib.Core.Bool.{or-true, or-false}
-use borrow.Author.Rules.{rules}
 use borrow.Author.Tests.{eq-eqb, ne_eqb}
 use Rattle.soundness.proofs.pending.is_pending_written.Goals as goal
 

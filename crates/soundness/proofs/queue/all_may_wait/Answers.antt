@@ -1,15 +1,9 @@
 -- `all_may_wait` meets its contract: whether all numbers in the queue may wait is whether all from position `i` on may, `i` the
 -- position at the loop's head, and the test decides the one at `i` itself. Assumes nothing.
-use Prim.Native.Nat.{◌-◌}
 use native.Mathlib.Omega.{arith}
-use mathlib.Core.Path.{◌≡◌, sym, ap, ◌∙◌}
-use borrow.Author.Rules.{rules}
-use Rattle.rules.specs.Range.{all}
-use Rattle.rules.specs.Sound.{may_wait, queue_numbers}
+use mathlib.Core.Path.{sym, ap, ◌∙◌}
+use Rattle.rules.specs.Sound.{may_wait}
 use Rattle.rules.proofs.Laws.Ranges.{all_left_here, all_left_next, all_left_done}
-use Rattle.rules.proofs.Laws.Negated.{failed, held}
-use Rattle.rules.specs.Queue.{entry_number}
-use Rattle.soundness.specs.Positions.{positions_from}
 use Rattle.soundness.proofs.QueueNumbers.{all_by_position}
 use Rattle.soundness.proofs.queue.all_may_wait.Goals as goal
 

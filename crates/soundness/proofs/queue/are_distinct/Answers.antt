@@ -1,11 +1,8 @@
 -- `are_distinct` meets its contract: whether the numbers in the queue stand there once each is whether those from position `i` on
 -- do, `i` the position at the loop's head, and the test decides the one at `i` itself. Assumes nothing.
-use Prim.Native.Nat.{◌-◌}
 use native.Mathlib.Omega.{arith}
-use mathlib.Core.Path.{◌≡◌, sym, ◌∙◌}
-use borrow.Author.Rules.{rules}
-use Rattle.rules.specs.Sound.{are_distinct, queue_numbers}
-use Rattle.soundness.proofs.QueueNumbers.{distinct_from, distinct_by_position, distinct_left_here, distinct_left_next, distinct_left_done}
+use mathlib.Core.Path.{sym, ◌∙◌}
+use Rattle.soundness.proofs.QueueNumbers.{distinct_by_position, distinct_left_here, distinct_left_next, distinct_left_done}
 use Rattle.soundness.proofs.queue.are_distinct.Goals as goal
 
 pub loop-i-init : goal.loop-i-init

@@ -1,6 +1,4 @@
 -- `are_sound_queues` meets its contract: the queue of the one kind is tested, then that of the other. Assumes nothing.
-use borrow.Author.Rules.{rules}
-use Rattle.rules.proofs.Laws.Negated.{failed, held}
 use Rattle.soundness.proofs.BothKinds.{both_kinds}
 use mathlib.Core.Path.{◌∙◌, sym}
 use Rattle.soundness.proofs.queue.are_sound_queues.Goals as goal

@@ -1,10 +1,8 @@
 -- `is_sound_queue` meets its contract: each exit is decided by the clauses that led there, in the definition's order.
 -- Assumes nothing.
-use borrow.Author.Rules.{rules}
 use borrow.Author.Tests.{le-leb, lt-leb}
 use Rattle.rules.specs.Table.{most_actions}
 use Rattle.rules.specs.Sound.{is_sound_queue}
-use Rattle.rules.proofs.Laws.Negated.{failed, held}
 use mathlib.Core.Path.{◌∙◌, sym}
 use Rattle.soundness.proofs.queue.is_sound_queue.Goals as goal
 

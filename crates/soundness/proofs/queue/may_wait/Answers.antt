@@ -1,9 +1,7 @@
 -- `may_wait` meets its contract: each exit is decided by the tests that led there, in the definition's order. Assumes nothing.
 use native.Mathlib.Omega.{arith}
-use borrow.Author.Rules.{rules}
 use borrow.Author.Tests.{le-leb, lt-leb, eq-eqb, ne_eqb}
 use Rattle.rules.specs.Sound.{may_wait}
-use Rattle.rules.proofs.Laws.Negated.{failed, held}
 use mathlib.Core.Path.{◌∙◌, sym}
 use Rattle.soundness.proofs.queue.may_wait.Goals as goal
 

@@ -1,11 +1,7 @@
 -- `stands_again` meets its contract: whether the number stands at a later position is whether it stands at one from `j` on, `j`
 -- the position at the loop's head, and the test decides `j` itself. Assumes nothing.
 use Prim.Native.Nat.{◌+◌, ◌-◌}
-use native.Mathlib.Omega.{arith}
-use mathlib.Core.Path.{◌≡◌, refl, sym, ◌∙◌}
-use borrow.Author.Rules.{rules}
-use borrow.Author.Tests.{eq-eqb, ne_eqb}
-use Rattle.rules.proofs.Laws.Ranges.{any_left_here, any_left_next, any_left_done}
+use mathlib.Core.Path.{◌≡◌}
 use Rattle.soundness.specs.Positions.{stands_from}
 use Rattle.soundness.proofs.queue.stands_again.Given as goal
 

@@ -1,15 +1,10 @@
 -- `all_sound` meets its contract: whether all actions are sound is whether all from `n` on are, `n` the action at the
 -- loop's head, and the test decides `n` itself. Assumes nothing.
-use Prim.Native.Nat.{◌≤◌, ◌-◌}
 use native.Mathlib.Nat.{add-sub_cancel}
 use native.Mathlib.Omega.{arith}
-use mathlib.Core.Path.{◌≡◌, sym, ◌∙◌}
-use borrow.Author.Rules.{rules}
-use Rattle.rules.specs.Range.{up_from, all}
+use mathlib.Core.Path.{sym, ◌∙◌}
 use Rattle.rules.specs.Table.{actions}
-use Rattle.rules.specs.Sound.{is_sound_action}
 use Rattle.rules.proofs.Laws.Ranges.{all_left_here, all_left_next, all_left_done}
-use Rattle.rules.proofs.Laws.Negated.{failed, held}
 use Rattle.soundness.proofs.sound.all_sound.Goals as goal
 
 pub loop-n-init : goal.loop-n-init

@@ -1,5 +1,4 @@
 -- `is_bounded` meets its contract: as many times have to be left as actions wait. Assumes nothing.
-use borrow.Author.Rules.{rules}
 use Rattle.rules.specs.Sound.{is_bounded}
 use Rattle.soundness.proofs.sound.is_bounded.Goals as goal
 

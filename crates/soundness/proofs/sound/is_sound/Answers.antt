@@ -1,10 +1,8 @@
 -- `is_sound` meets its contract: each exit is decided by the clauses that led there, in the definition's order; those of each action
 -- say of live ones what the last clause's test asks. Assumes nothing.
-use borrow.Author.Rules.{rules}
 use borrow.Author.Tests.{eq-eqb, ne_eqb, le-leb, lt-leb}
 use Rattle.rules.specs.Table.{most_actions}
 use Rattle.rules.specs.Sound.{sound}
-use Rattle.rules.proofs.Laws.Negated.{failed, held}
 use Rattle.soundness.proofs.LiveActions.{live_climb, live_parents}
 use mathlib.Core.Path.{◌∙◌, sym}
 use Rattle.soundness.proofs.sound.is_sound.Goals as goal

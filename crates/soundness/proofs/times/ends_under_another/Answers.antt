@@ -1,6 +1,4 @@
 -- `ends_under_another` meets its contract: it asks what the definition does, in its order. Assumes nothing.
-use borrow.Author.Rules.{rules}
-use Rattle.rules.proofs.Laws.Negated.{failed, held}
 use mathlib.Core.Path.{◌∙◌, sym}
 use Rattle.soundness.proofs.times.ends_under_another.Goals as goal
 

@@ -1,6 +1,4 @@
 -- `has_end_in_time` meets its contract: where the end time doesn't count there is nothing to ask. Assumes nothing.
-use borrow.Author.Rules.{rules}
-use Rattle.rules.proofs.Laws.Negated.{failed, held}
 use mathlib.Core.Path.{◌∙◌, sym}
 use Rattle.soundness.proofs.times.has_end_in_time.Goals as goal
 

@@ -1,8 +1,6 @@
 -- `has_read_in_time` meets its contract: of a live action the times of the one kind are tested, then those of the other.
 -- Assumes nothing.
-use borrow.Author.Rules.{rules}
 use Rattle.rules.specs.Sound.{has_read_in_time}
-use Rattle.rules.proofs.Laws.Negated.{failed, held}
 use Rattle.soundness.proofs.BothKinds.{both_kinds}
 use mathlib.Core.Path.{◌∙◌, sym}
 use Rattle.soundness.proofs.times.has_read_in_time.Goals as goal

@@ -1,13 +1,9 @@
 -- `has_times_in` meets its contract: whether all reads are in time is whether the latest time so far and all reads from account
 -- `k` on are, `k` the account at the loop's head; that time stays one of kind `h`. Assumes nothing.
-use Prim.Native.Nat.{◌≤◌, ◌-◌}
 use native.Mathlib.Omega.{arith}
-use mathlib.Core.Path.{◌≡◌, ◌∙◌}
-use borrow.Author.Rules.{rules}
-use Rattle.rules.specs.Card.{account_count}
-use Rattle.rules.specs.Sound.{has_times_in}
-use Rattle.rows.specs.Times.{kind_in, number_in}
-use Rattle.soundness.proofs.ReadTimes.{times_in_from, times_in_all, times_in_next, times_in_done}
+use mathlib.Core.Path.{◌∙◌}
+use Rattle.rows.specs.Times.{number_in}
+use Rattle.soundness.proofs.ReadTimes.{times_in_all, times_in_next, times_in_done}
 use Rattle.soundness.proofs.times.has_times_in.Goals as goal
 
 pub loop-k-init : goal.loop-k-init

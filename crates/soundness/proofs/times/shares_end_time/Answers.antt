@@ -7,7 +7,6 @@ use borrow.Author.Tests.{eq-eqb, ne_eqb}
 use Rattle.rules.specs.Kind.{kind_under}
 use Rattle.rules.specs.Sound.{ends_under_another}
 use Rattle.rules.proofs.Laws.Tests.{and_true, and_false}
-use Rattle.rules.proofs.Laws.Negated.{failed, held}
 use Rattle.soundness.proofs.times.shares_end_time.Goals as goal
 
 pub returns-then-parent : goal.returns-then-parent

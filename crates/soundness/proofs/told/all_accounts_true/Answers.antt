@@ -1,16 +1,10 @@
 -- `all_accounts_true` meets its contract: whether all accounts pass is whether all from `k` on do, `k` the account at the loop's head,
 -- and the test decides `k` itself. Assumes nothing.
-use Prim.Native.Nat.{◌-◌}
-use native.Mathlib.Omega.{arith}
-use mathlib.Core.Path.{◌≡◌, sym, ap, ◌∙◌}
+use mathlib.Core.Path.{sym, ap, ◌∙◌}
 use borrow.Author.Rules.{rules}
 use lib.ListN.{get_or}
-use Rattle.rules.specs.Range.{up_from, all}
-use Rattle.rules.specs.Card.{account_count, accounts}
-use Rattle.rules.specs.Sound.{are_newest_true}
+use Rattle.rules.specs.Card.{accounts}
 use Rattle.rules.proofs.Laws.Ranges.{all_left_here, all_left_next, all_left_done}
-use Rattle.rules.proofs.Laws.Negated.{failed, held}
-use Rattle.soundness.specs.Reads.{are_reads_true}
 use Rattle.soundness.proofs.AccountReads.{true_by_account}
 use Rattle.soundness.proofs.told.all_accounts_true.Goals as goal
 

@@ -1,15 +1,10 @@
 -- `all_reads_true` meets its contract: whether the truth is told to all actions is whether it is to all from `m` on, `m` the action at
 -- the loop's head, and the test decides `m` itself. Assumes nothing.
-use Prim.Native.Nat.{◌≤◌, ◌-◌}
 use native.Mathlib.Nat.{add-sub_cancel}
 use native.Mathlib.Omega.{arith}
-use mathlib.Core.Path.{◌≡◌, sym, ◌∙◌}
-use borrow.Author.Rules.{rules}
-use Rattle.rules.specs.Range.{up_from, all}
+use mathlib.Core.Path.{sym, ◌∙◌}
 use Rattle.rules.specs.Table.{actions}
 use Rattle.rules.proofs.Laws.Ranges.{all_left_here, all_left_next, all_left_done}
-use Rattle.rules.proofs.Laws.Negated.{failed, held}
-use Rattle.soundness.specs.Reads.{is_read_true}
 use Rattle.soundness.proofs.told.all_reads_true.Goals as goal
 
 pub loop-m-init : goal.loop-m-init

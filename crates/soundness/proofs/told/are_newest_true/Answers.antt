@@ -1,7 +1,6 @@
 -- `are_newest_true` meets its contract: where the two rows are the same the clause holds, and otherwise the test of each account
 -- decides. Assumes nothing.
 use mathlib.Core.Path.{sym, ◌∙◌}
-use borrow.Author.Rules.{rules}
 use Rattle.soundness.proofs.AccountReads.{same_ends_true}
 use Rattle.soundness.proofs.told.are_newest_true.Goals as goal
 

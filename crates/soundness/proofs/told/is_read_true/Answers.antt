@@ -1,9 +1,7 @@
 -- `is_read_true` meets its contract: each exit is decided by the tests that led there; that the definition asks for the read last
 -- makes no difference. The end time found for the account tells what the parent's records tell. Assumes nothing.
 use mathlib.Core.Bool.{or-true}
-use borrow.Author.Rules.{rules}
 use Rattle.rules.specs.Sound.{is_told_true}
-use Rattle.rules.proofs.Laws.Negated.{failed, held}
 use Rattle.soundness.specs.Reads.{is_read_true}
 use Rattle.soundness.proofs.HeldEnds.{stale_by_ends}
 use mathlib.Core.Path.{◌∙◌, sym}

@@ -1,7 +1,5 @@
 -- `has_way_up` meets its contract: of an action that isn't live nothing is asked. Assumes nothing.
-use borrow.Author.Rules.{rules}
 use Rattle.rules.specs.Sound.{has_way_up}
-use Rattle.rules.proofs.Laws.Negated.{failed, held}
 use mathlib.Core.Path.{◌∙◌, sym}
 use Rattle.soundness.proofs.way.has_way_up.Goals as goal
 

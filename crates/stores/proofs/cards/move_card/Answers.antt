@@ -1,5 +1,4 @@
 -- `move_card` puts the card that it took. Assumes nothing.
-use borrow.Author.Rules.{rules}
 use Rattle.stores.proofs.cards.move_card.Goals as goal
 
 pub returns : goal.returns

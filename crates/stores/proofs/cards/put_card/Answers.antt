@@ -1,11 +1,10 @@
 -- `put_card` leaves the store with the card put at its place. The loop's invariant: the first i bytes of the card
 -- stand in the store, from its place on, and nothing else has changed. Assumes nothing.
-use Prim.Native.Nat.{◌-◌, ◌≤◌}
 use native.Mathlib.Omega.{arith}
 use native.Mathlib.Numerals.{add-one}
 use mathlib.Core.Path.{◌≡◌, refl, ◌∙◌}
-use lib.ListN.{length, length-set}
-use lib.Seq.{paste, paste-zero, paste-suc, take_all}
+use lib.ListN.{length-set}
+use lib.Seq.{paste-zero, paste-suc, take_all}
 use Rattle.rules.specs.Card.{card_length, with_card}
 use Rattle.stores.proofs.cards.put_card.Goals as goal
 

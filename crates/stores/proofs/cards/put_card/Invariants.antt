@@ -1,12 +1,10 @@
 -- `put_card` leaves the store with the card put at its place. The loop's invariant: the first i bytes of the card
 -- stand in the store, from its place on, and nothing else has changed. Assumes nothing.
 use Prim.Native.Nat.{◌-◌, ◌≤◌}
-use native.Mathlib.Omega.{arith}
-use native.Mathlib.Numerals.{add-one}
-use mathlib.Core.Path.{◌≡◌, refl, ◌∙◌}
-use lib.ListN.{length, length-set}
-use lib.Seq.{paste, paste-zero, paste-suc, take_all}
-use Rattle.rules.specs.Card.{card_length, with_card}
+use mathlib.Core.Path.{◌≡◌}
+use lib.ListN.{length}
+use lib.Seq.{paste}
+use Rattle.rules.specs.Card.{card_length}
 use Rattle.stores.proofs.cards.put_card.Given as goal
 
 abbrev pub invariant-loop-i : goal.invariant-loop-i

@@ -1,10 +1,10 @@
 -- `take_card` gives back the card at a place. The loop's invariant: the first i bytes are those from that place on. Assumes
 -- nothing.
-use Prim.Native.Nat.{◌-◌, ◌≤◌, ◌<◌}
+use Prim.Native.Nat.{◌<◌}
 use native.Mathlib.Omega.{arith}
 use native.Mathlib.Numerals.{add-one}
 use mathlib.Core.Path.{◌≡◌, refl, sym, ◌∙◌}
-use lib.ListN.{length, length-set, length-drop, take, drop}
+use lib.ListN.{length, length-set, length-drop, drop}
 use lib.Seq.{take_all, take-suc, take-suc-set, get_or-drop}
 use Rattle.rules.specs.Card.{card_length, card_at}
 use Rattle.stores.proofs.cards.take_card.Goals as goal

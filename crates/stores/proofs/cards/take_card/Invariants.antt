@@ -1,12 +1,9 @@
 -- `take_card` gives back the card at a place. The loop's invariant: the first i bytes are those from that place on. Assumes
 -- nothing.
-use Prim.Native.Nat.{◌-◌, ◌≤◌, ◌<◌}
-use native.Mathlib.Omega.{arith}
-use native.Mathlib.Numerals.{add-one}
-use mathlib.Core.Path.{◌≡◌, refl, sym, ◌∙◌}
-use lib.ListN.{length, length-set, length-drop, take, drop}
-use lib.Seq.{take_all, take-suc, take-suc-set, get_or-drop}
-use Rattle.rules.specs.Card.{card_length, card_at}
+use Prim.Native.Nat.{◌-◌, ◌≤◌}
+use mathlib.Core.Path.{◌≡◌}
+use lib.ListN.{length, take, drop}
+use Rattle.rules.specs.Card.{card_length}
 use Rattle.stores.proofs.cards.take_card.Given as goal
 
 abbrev pub invariant-loop-i : goal.invariant-loop-i

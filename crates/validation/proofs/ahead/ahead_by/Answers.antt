@@ -1,7 +1,5 @@
 -- `ahead_by` meets its contract: nothing is found of one who is no rival. Assumes nothing.
-use borrow.Author.Rules.{rules}
 use Rattle.rules.specs.Ahead.{ahead_by}
-use Rattle.rules.proofs.Laws.Negated.{failed, held}
 use mathlib.Core.Path.{◌∙◌, sym}
 use Rattle.validation.proofs.ahead.ahead_by.Goals as goal
 

@@ -1,13 +1,10 @@
 -- `ahead_over` meets its contract: what is found over all accounts is what is found over those from `k` on, `k` the account at the
 -- loop's head, and the test decides `k` itself. Assumes nothing.
 use Prim.Native.Nat.{◌≤◌, ◌-◌}
-use native.Mathlib.Omega.{arith}
-use mathlib.Core.Path.{◌≡◌, refl, sym, ◌∙◌}
-use borrow.Author.Rules.{rules}
+use mathlib.Core.Path.{◌≡◌}
 use Rattle.rules.specs.Card.{accounts, account_count}
 use Rattle.rules.specs.Range.{up_from}
 use Rattle.rules.specs.Ahead.{ahead_over}
-use Rattle.validation.proofs.AheadSearch.{over_here, over_next, over_done}
 use Rattle.validation.proofs.ahead.ahead_over.Given as goal
 
 abbrev pub invariant-loop-k : goal.invariant-loop-k

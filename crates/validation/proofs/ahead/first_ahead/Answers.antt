@@ -1,11 +1,7 @@
 -- `first_ahead` meets its contract: what is found among all actions is what is found among those from `m` on, `m` the action at the
 -- loop's head, and what `m` is found to be decides whether the search goes on. Assumes nothing.
-use Prim.Native.Nat.{◌-◌, ◌≤◌}
 use native.Mathlib.Omega.{arith}
-use mathlib.Core.Path.{◌≡◌, sym, ◌∙◌}
-use borrow.Author.Rules.{rules}
-use Rattle.rules.specs.Range.{up_from}
-use Rattle.rules.specs.Ahead.{ahead_among, first_ahead}
+use mathlib.Core.Path.{sym, ◌∙◌}
 use Rattle.validation.proofs.AheadSearch.{among_here, among_next, among_done, among_all}
 use Rattle.validation.proofs.ahead.first_ahead.Goals as goal
 

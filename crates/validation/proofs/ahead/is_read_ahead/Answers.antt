@@ -1,6 +1,4 @@
 -- `is_read_ahead` meets its contract: each way out is one outcome of the two tests. Assumes nothing.
-use borrow.Author.Rules.{rules}
-use Rattle.rules.proofs.Laws.Negated.{failed, held}
 use mathlib.Core.Path.{◌∙◌, sym}
 use Rattle.validation.proofs.ahead.is_read_ahead.Goals as goal
 

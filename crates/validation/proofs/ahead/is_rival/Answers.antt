@@ -2,9 +2,7 @@
 -- Assumes nothing.
 use mathlib.Core.Path.{◌∙◌, sym, ap}
 use mathlib.Core.Bool.{not}
-use borrow.Author.Rules.{rules}
 use Rattle.rules.specs.Ahead.{is_rival}
-use Rattle.rules.proofs.Laws.Negated.{failed, held}
 use Rattle.validation.proofs.ahead.is_rival.Goals as goal
 
 pub returns-then-not-is_live : goal.returns-then-not-is_live

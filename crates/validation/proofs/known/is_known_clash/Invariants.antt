@@ -1,16 +1,13 @@
 -- `is_known_clash` meets its contract: whether a read of any account is stale is whether one of any from `k` on is, `k` the account
 -- at the loop's head, and the test decides `k` itself. Assumes nothing.
 use Prim.Native.Nat.{◌≤◌, ◌-◌}
-use native.Mathlib.Omega.{arith}
-use mathlib.Core.Path.{◌≡◌, refl, sym, ◌∙◌}
+use mathlib.Core.Path.{◌≡◌}
 use mathlib.Core.Bool.{◌&&◌}
-use borrow.Author.Rules.{rules}
-use Rattle.rules.specs.Card.{accounts, account_count}
+use Rattle.rules.specs.Card.{account_count}
 use Rattle.rules.specs.Kind.{kind_under}
 use Rattle.rules.specs.Range.{up_from, any}
 use Rattle.rules.specs.Table.{has_read, read_time}
 use Rattle.rules.specs.Stale.{is_known_stale, is_known_clash}
-use Rattle.rules.proofs.Laws.Ranges.{any_left_here, any_left_next, any_left_done}
 use Rattle.validation.proofs.known.is_known_clash.Given as goal
 
 abbrev pub invariant-loop-k : goal.invariant-loop-k

@@ -1,6 +1,4 @@
 -- `is_known_stale` meets its contract: each way out is one outcome of the two tests. Assumes nothing.
-use borrow.Author.Rules.{rules}
-use Rattle.rules.proofs.Laws.Negated.{failed, held}
 use mathlib.Core.Path.{◌∙◌, sym}
 use Rattle.validation.proofs.known.is_known_stale.Goals as goal
 

@@ -6,7 +6,6 @@ use borrow.Author.Tests.{eq-eqb, ne_eqb}
 use Rattle.rules.specs.Kind.{kind_under}
 use Rattle.rules.specs.Table.{is_record_of}
 use Rattle.rules.proofs.Laws.Tests.{and_true, and_false}
-use Rattle.rules.proofs.Laws.Negated.{failed, held}
 use Rattle.validation.proofs.records.is_next_record.Goals as goal
 
 pub returns-then-parent-p : goal.returns-then-parent-p

@@ -1,7 +1,5 @@
 -- `is_sooner` meets its contract: each way out is one outcome of the three tests. Assumes nothing.
-use borrow.Author.Rules.{rules}
 use borrow.Author.Tests.{ne_eqb}
-use Rattle.rules.proofs.Laws.Negated.{failed, held}
 use mathlib.Core.Path.{◌∙◌, sym}
 use Rattle.validation.proofs.records.is_sooner.Goals as goal
 

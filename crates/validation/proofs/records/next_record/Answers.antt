@@ -1,18 +1,13 @@
 -- `next_record` meets its contract. The loop's invariant: `next` is the next record among those with a number above `m`, and
 -- where there is one it is a child of `p`. The measure is `m`. Assumes nothing.
-use Prim.Native.Nat.{◌+◌, ◌-◌, ◌≤◌}
+use Prim.Native.Nat.{◌+◌, ◌-◌}
 use native.Mathlib.Nat.{le_refl}
 use native.Mathlib.Omega.{arith}
 use mathlib.Core.Path.{◌≡◌, refl, sym, ◌∙◌}
-use mathlib.Core.Logic.{⊎_elim}
-use borrow.Author.Rules.{rules}
-use Rattle.rules.specs.Table.{highest}
-use Rattle.rules.specs.Search.{next_after}
 use Rattle.rules.proofs.Laws.Tests.{and_left}
 use Rattle.rules.proofs.Clash.Records.{record_parent}
 use Rattle.rows.specs.Times.{number_in}
-use Rattle.validation.specs.NextRecord.{IsChildOrNone}
-use Rattle.validation.proofs.ClashSearch.{records_from, scan_start, scan_next, scan_done}
+use Rattle.validation.proofs.ClashSearch.{scan_start, scan_next, scan_done}
 use Rattle.validation.proofs.records.next_record.Goals as goal
 use Rattle.validation.proofs.records.next_record.Goals.{then-is_next_record, else-is_next_record}
 
@@ -39,9 +34,9 @@ loop-m-preserved c =
       ← told,
     )
     (elim c.if-is_next_record.branch [
-      then-is_next_record w ↦
-        let child = record_parent _ _ _ (and_left _ _ (sym told ∙ w.if-is_next_record.true)) in
-        rw (w.next-is, w.if-is_next_record.true) (omega arith, loop.invariant.0, λ some. child, refl)
-    | else-is_next_record w ↦
-        rw (w.next-is, w.if-is_next_record.false) (omega arith, loop.invariant.1, loop.invariant.2, refl)
+      | then-is_next_record w ↦
+          let child = record_parent _ _ _ (and_left _ _ (sym told ∙ w.if-is_next_record.true)) in
+          rw (w.next-is, w.if-is_next_record.true) (omega arith, loop.invariant.0, λ some. child, refl)
+      | else-is_next_record w ↦
+          rw (w.next-is, w.if-is_next_record.false) (omega arith, loop.invariant.1, loop.invariant.2, refl)
     ])

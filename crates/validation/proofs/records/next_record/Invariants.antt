@@ -1,18 +1,12 @@
 -- `next_record` meets its contract. The loop's invariant: `next` is the next record among those with a number above `m`, and
 -- where there is one it is a child of `p`. The measure is `m`. Assumes nothing.
-use Prim.Native.Nat.{◌+◌, ◌-◌, ◌≤◌}
-use native.Mathlib.Nat.{le_refl}
-use native.Mathlib.Omega.{arith}
-use mathlib.Core.Path.{◌≡◌, refl, sym, ◌∙◌}
-use mathlib.Core.Logic.{⊎_elim}
-use borrow.Author.Rules.{rules}
+use Prim.Native.Nat.{◌+◌, ◌≤◌}
+use mathlib.Core.Path.{◌≡◌}
 use Rattle.rules.specs.Table.{highest}
 use Rattle.rules.specs.Search.{next_after}
-use Rattle.rules.proofs.Laws.Tests.{and_left}
-use Rattle.rules.proofs.Clash.Records.{record_parent}
 use Rattle.rows.specs.Times.{number_in}
 use Rattle.validation.specs.NextRecord.{IsChildOrNone}
-use Rattle.validation.proofs.ClashSearch.{records_from, scan_start, scan_next, scan_done}
+use Rattle.validation.proofs.ClashSearch.{records_from}
 use Rattle.validation.proofs.records.next_record.Given as goal
 
 abbrev pub invariant-loop-m : goal.invariant-loop-m

@@ -1,20 +1,14 @@
 -- `first_clash` meets its contract. The outer loop's invariant: `last` is a time of the action's kind, and the search has come to
 -- the records with end times above it; the measure is what is left above it of that kind's counter. The inner loop's: the search
 -- has come to account `k` of record `m`, and its measure is what is left of the accounts. Assumes nothing.
-use Prim.Native.Nat.{◌-◌, ◌≤◌, ◌<◌}
 use native.Mathlib.Omega.{arith}
-use mathlib.Core.Path.{◌≡◌, sym, ap, ◌∙◌}
+use mathlib.Core.Path.{sym, ap, ◌∙◌}
 use borrow.Author.Rules.{rules}
-use Rattle.rules.specs.Card.{account_count, accounts}
+use Rattle.rules.specs.Card.{accounts}
 use Rattle.rules.specs.Kind.{kind_under}
-use Rattle.rules.specs.Table.{counter, parent_of, kind_of, end_time, records}
-use Rattle.rules.specs.Clash.{first_clash}
-use Rattle.rules.specs.Sound.{IsGiven}
-use Rattle.rules.specs.Search.{next_after}
 use Rattle.rules.proofs.Clash.Records.{next_given}
-use Rattle.rules.proofs.Clash.Searching.{search_after, Searchable, sound_searchable, search_none, search_next, search_after_finds}
-use Rattle.rows.specs.Times.{kind_in, number_in}
-use Rattle.validation.proofs.ClashSearch.{next_child, search_from, accounts_here, accounts_next, accounts_done, first_reads}
+use Rattle.rules.proofs.Clash.Searching.{sound_searchable, search_none, search_next, search_after_finds}
+use Rattle.validation.proofs.ClashSearch.{next_child, accounts_here, accounts_next, accounts_done, first_reads}
 use Rattle.validation.proofs.search.first_clash.Goals as goal
 
 pub records-init : goal.records-init

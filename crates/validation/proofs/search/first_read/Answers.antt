@@ -1,15 +1,10 @@
 -- `first_read` meets its contract. The loop's invariant: the smallest time so far is of the action's kind, and what is left of
 -- the accounts, from k on, makes of it what they all make of the counter. Assumes nothing.
-use Prim.Native.Nat.{◌-◌, ◌≤◌}
 use native.Mathlib.Omega.{arith}
-use mathlib.Core.Path.{◌≡◌, sym, ◌∙◌}
-use borrow.Author.Rules.{rules}
-use Rattle.rules.specs.Card.{account_count}
-use Rattle.rules.specs.Table.{kind_of}
+use mathlib.Core.Path.{sym, ◌∙◌}
 use Rattle.rules.proofs.Laws.Kinds.{kind_known}
-use Rattle.rows.specs.Times.{kind_in, number_in}
-use Rattle.validation.specs.FirstRead.{first_read}
-use Rattle.validation.proofs.ClashSearch.{first_read_from, first_all, first_next, first_done}
+use Rattle.rows.specs.Times.{number_in}
+use Rattle.validation.proofs.ClashSearch.{first_all, first_next, first_done}
 use Rattle.validation.proofs.search.first_read.Goals as goal
 
 pub counter-first-requires-clause-kind : goal.counter-first-requires-clause-kind

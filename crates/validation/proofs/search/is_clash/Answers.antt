@@ -1,6 +1,4 @@
 -- `is_clash` meets its contract: each way out is one outcome of the three tests. Assumes nothing.
-use borrow.Author.Rules.{rules}
-use Rattle.rules.proofs.Laws.Negated.{failed, held}
 use mathlib.Core.Path.{◌∙◌, sym}
 use Rattle.validation.proofs.search.is_clash.Goals as goal
 

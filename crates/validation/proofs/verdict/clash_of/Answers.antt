@@ -1,7 +1,5 @@
 -- `clash_of` meets its contract: in a sound table a live action has no clash where none is known. Assumes nothing.
 use mathlib.Core.Path.{◌∙◌, sym}
-use borrow.Author.Rules.{rules}
-use Rattle.rules.proofs.Laws.Negated.{failed}
 use Rattle.rules.proofs.Clash.Known.{known_clear}
 use Rattle.validation.proofs.verdict.clash_of.Goals as goal
 

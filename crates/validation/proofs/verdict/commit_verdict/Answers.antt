@@ -1,6 +1,5 @@
 -- `commit_verdict` meets its contract: the table's rule decides which search is asked. Assumes nothing.
 use mathlib.Core.Path.{sym, ◌∙◌}
-use borrow.Author.Rules.{rules}
 use Rattle.rules.proofs.Clash.CommitAnswers.{backward_verdict, forward_verdict}
 use Rattle.validation.proofs.verdict.commit_verdict.Goals as goal
 

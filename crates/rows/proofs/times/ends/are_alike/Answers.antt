@@ -1,7 +1,6 @@
 -- `are_alike` meets its contract: the first says what the second has to be. Assumes nothing.
 use mathlib.Core.Path.{◌≡◌, refl}
 use mathlib.Core.Bool.{Bool, true, false, beq}
-use borrow.Author.Rules.{rules}
 use Rattle.rows.proofs.times.ends.are_alike.Goals as goal
 
 alike_true : (b : Bool) → b ≡ beq true b

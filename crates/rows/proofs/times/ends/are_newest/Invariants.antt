@@ -1,16 +1,14 @@
 -- `are_newest` meets its contract: whether the words of all accounts are the same is whether what differs before `k`, the account
 -- at the loop's head, joined and what differs from `k` on is 0. Assumes nothing.
 use Prim.Native.Nat.{◌-◌}
-use native.Mathlib.Omega.{arith}
-use mathlib.Core.Path.{◌≡◌, sym, ◌∙◌}
-use borrow.Author.Rules.{rules}
+use mathlib.Core.Path.{◌≡◌}
 use lib.Bits.{bit_xor}
 use lib.Dec.{eqb}
 use lib.ListN.{get_or}
 use Rattle.rules.specs.Range.{all}
 use Rattle.rules.specs.Card.{account_count, accounts}
 use Rattle.rules.specs.Table.{newest}
-use Rattle.rows.proofs.JoinedWords.{none_from, same_all, none_next, none_done}
+use Rattle.rows.proofs.JoinedWords.{none_from}
 use Rattle.rows.proofs.times.ends.are_newest.Given as goal
 
 abbrev pub invariant-loop-k : goal.invariant-loop-k

@@ -1,13 +1,8 @@
 -- `has_no_newest` meets its contract: whether the words of all accounts are 0 is whether those before `k`, the account at the
 -- loop's head, joined and all from `k` on are. Assumes nothing.
-use Prim.Native.Nat.{◌-◌}
-use native.Mathlib.Omega.{arith}
-use mathlib.Core.Path.{◌≡◌, sym, ◌∙◌}
-use borrow.Author.Rules.{rules}
-use Rattle.rules.specs.Range.{all}
-use Rattle.rules.specs.Card.{account_count, accounts}
-use Rattle.rules.specs.Table.{newest}
-use Rattle.rows.proofs.JoinedWords.{is_none, none_from, none_all, none_next, none_done}
+use mathlib.Core.Path.{sym, ◌∙◌}
+use Rattle.rules.specs.Card.{accounts}
+use Rattle.rows.proofs.JoinedWords.{none_all, none_next, none_done}
 use Rattle.rows.proofs.times.ends.has_no_newest.Goals as goal
 
 pub loop-k-init : goal.loop-k-init

@@ -1,5 +1,4 @@
 -- `is_newest` meets its contract: the two numbers are compared. Assumes nothing.
-use borrow.Author.Rules.{rules}
 use Rattle.rows.proofs.times.ends.is_newest.Goals as goal
 
 pub returns : goal.returns

@@ -1,5 +1,4 @@
 -- `is_told_alike` meets its contract: the two comparisons come to the same. Assumes nothing.
-use borrow.Author.Rules.{rules}
 use Rattle.rows.proofs.times.ends.is_told_alike.Goals as goal
 
 pub returns : goal.returns

@@ -1,6 +1,5 @@
 -- `raise_end` meets its contract: without a write the row stays, and else the larger of the two stands there. Assumes nothing.
 use mathlib.Core.Path.{sym, ◌∙◌}
-use borrow.Author.Rules.{rules}
 use Rattle.rows.proofs.times.ends.raise_end.Goals as goal
 
 pub returns-else-has_written : goal.returns-else-has_written

@@ -1,13 +1,9 @@
 -- `raise_ends` meets its contract: the row at entry, raised for all accounts, is the present one raised for those from `k` on, `k`
 -- the account at the loop's head. Assumes nothing.
-use Prim.Native.Nat.{◌-◌}
-use native.Mathlib.Omega.{arith}
-use mathlib.Core.Path.{◌≡◌, refl, sym, ◌∙◌}
-use borrow.Author.Rules.{rules}
-use Rattle.rules.specs.Range.{up_from, fold}
+use mathlib.Core.Path.{refl, sym, ◌∙◌}
 use Rattle.rules.specs.Card.{account_count, accounts}
 use Rattle.rules.proofs.Laws.Ranges.{fold_left_next, fold_left_done}
-use Rattle.rows.specs.Ends.{raised_end, raised_ends}
+use Rattle.rows.specs.Ends.{raised_ends}
 use Rattle.rows.proofs.times.ends.raise_ends.Goals as goal
 
 pub loop-k-init : goal.loop-k-init

@@ -1,6 +1,5 @@
 -- `read_before_row` meets its contract: the kind of p's children says which time of the read is compared. Assumes nothing.
 use mathlib.Core.Path.{sym, ◌∙◌}
-use borrow.Author.Rules.{rules}
 use Rattle.rows.proofs.ByKind.{other_kind}
 use Rattle.rows.proofs.times.ends.read_before_row.Goals as goal
 

@@ -1,5 +1,5 @@
 -- `note_end` meets its contract: n is a child of p, so n's end time is of the kind of p's newest ones. Assumes nothing.
-use mathlib.Core.Path.{sym, ap, ◌∙◌}
+use mathlib.Core.Path.{ap, ◌∙◌}
 use borrow.Author.Rules.{rules}
 use Rattle.rules.specs.Kind.{kind_under}
 use Rattle.rows.proofs.ByKind.{other_kind}

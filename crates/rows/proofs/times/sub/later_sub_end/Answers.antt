@@ -1,5 +1,4 @@
 -- `later_sub_end` meets its contract: it is the larger of the two. Assumes nothing.
-use borrow.Author.Rules.{rules}
 use Rattle.rows.proofs.ByKind.{larger_first, larger_second}
 use Rattle.rows.proofs.times.sub.later_sub_end.Goals as goal
 

@@ -1,5 +1,4 @@
 -- The entry of an account that is in the read set is 1 at least, so its time can be told. Assumes nothing.
-use borrow.Author.Rules.{rules}
 use Rattle.rows.proofs.ByKind.{entry_read}
 use Rattle.rows.proofs.times.top.top_read.Goals as goal
 
