@@ -1,2 +1,0 @@
--- What a C caller is given of a look.
-mod CopiedCard
