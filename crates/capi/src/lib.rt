@@ -1,6 +1,7 @@
 // The open calls over the C ABI: a slice is a pointer and a length, a number is itself. include/mundzavch.h says what each
 // pointer must be; the promises are those of the calls that these pass on to.
 #![tactic(auto)]
+
 ghost use Rattle.std.specs.Prelude.{◌≡◌, [], ◌∷◌};
 ghost use Rattle.rules.specs.Kind.{top_kind, sub_kind};
 ghost use Rattle.rules.specs.Table.{highest, counter};

@@ -1,6 +1,6 @@
 -- What is written of a list, from what was read of it: the list itself, or more bytes of it than any list has that is not
 -- refused. Assumes nothing.
-use Rattle.std.proofs.Common.{◌≡◌, ℕ, ◌≤◌, List, [], ◌++◌, length, take, Some, None, refl, sym, subst, ◌∙◌, append-nil, arith}
+use Rattle.std.proofs.Common.{◌≡◌, ℕ, ◌≤◌, List, [], ◌++◌, length, Some, None, refl, sym, subst, ◌∙◌, append-nil, arith}
 use native.Mathlib.Decide.{dec_le}
 use lib.ListN.{length-append}
 use Rattle.std.specs.Prelude.{Option}

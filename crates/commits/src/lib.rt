@@ -1,5 +1,6 @@
 // The commit of an action: judged, and passed or failed; and the end of one that has left its queue.
 #![tactic(auto)]
+
 pub mod commit;
 mod copy;
 mod end;

@@ -1,6 +1,7 @@
 // Every kind of day, each from a file of data/: its name, then its listing, then its tree.
 // The expected lines are those of the second engine (`compare/run lines FILE`, `compare/run tree FILE`).
 #![tactic(auto)]
+
 use dayio::{print_listing, print_tree};
 use std::io::Result;
 use std::rt::Files;

@@ -1,5 +1,6 @@
 // The open calls on a ledger that the caller lends: one event, and a look.
 #![tactic(auto)]
+
 pub mod event;
 pub mod look;
 mod sight;

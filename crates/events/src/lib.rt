@@ -1,5 +1,6 @@
 // The events that are carried out without being judged: start, read, write, add and abort.
 #![tactic(auto)]
+
 pub mod abort;
 pub mod add;
 pub mod read;

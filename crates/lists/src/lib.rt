@@ -1,4 +1,5 @@
 // A list of events in one call, and an answer as words.
 #![tactic(auto)]
+
 pub mod answer;
 pub mod run;

@@ -1,5 +1,6 @@
 // The tree report of a table: why there is none, its lines, its last block.
 #![tactic(auto)]
+
 mod balance;
 mod cause;
 mod figures;

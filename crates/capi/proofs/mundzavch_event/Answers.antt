@@ -1,6 +1,5 @@
 -- The four numbers handed back are the words of the answer, which is the rule's. Assumes nothing.
 use mathlib.Core.Path.{ap, ◌∙◌}
-use borrow.Author.Rules.{rules}
 use Rattle.rules.specs.Encoding.{words_of}
 use Rattle.rules.proofs.Laws.AnswerWords.{four_words}
 use Rattle.capi.proofs.mundzavch_event.Goals as goal

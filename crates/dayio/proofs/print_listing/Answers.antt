@@ -25,13 +25,13 @@ unfolding new_table
 returns-in_err-write_full-clause-failed g c =
     let put = text_in_front _ _ (day_size _ _ _ c.day-k.ensures, day_out _ _ _ c.day-k.ensures) in
     let part :
-        PrintsPart (listing fresh) (g.R.Read.remaining c.args.from.now) (g.R.Read.remaining c.read_full.new.reader)
-        (g.W.Write.contents c.args.to.now) (g.W.Write.contents c.write_full.new.writer) =
-        record {
-          read = record { bytes = _; gone = c.in_ok-n.ensures.bytes };
-          file = _;
-          written = subst (AppendsFront _ _) put c.in_err-write_full.ensures.failed;
-        }
+    PrintsPart (listing fresh) (g.R.Read.remaining c.args.from.now) (g.R.Read.remaining c.read_full.new.reader)
+    (g.W.Write.contents c.args.to.now) (g.W.Write.contents c.write_full.new.writer) =
+    record {
+      read = record { bytes = _; gone = c.in_ok-n.ensures.bytes };
+      file = _;
+      written = subst (AppendsFront _ _) put c.in_err-write_full.ensures.failed;
+    }
     in
     on_err _ part
 

@@ -27,13 +27,13 @@ unfolding new_table
 returns-in_err-write_full-clause-failed g c =
     let put = text_in_front _ _ (tree_size _ _ _ _ c.tree-size.ensures c.tree-size.auto.opening, tree_out _ _ _ _ c.tree-size.ensures c.tree-size.auto.opening) in
     let part :
-        PrintsPart (tree_of_day fresh (replicate base_length 0)) (g.R.Read.remaining c.args.from.now) (g.R.Read.remaining c.read_full.new.reader)
-        (g.W.Write.contents c.args.to.now) (g.W.Write.contents c.write_full.new.writer) =
-        record {
-          read = record { bytes = _; gone = c.in_ok-n.ensures.bytes };
-          file = _;
-          written = subst (AppendsFront _ _) put c.in_err-write_full.ensures.failed;
-        }
+    PrintsPart (tree_of_day fresh (replicate base_length 0)) (g.R.Read.remaining c.args.from.now) (g.R.Read.remaining c.read_full.new.reader)
+    (g.W.Write.contents c.args.to.now) (g.W.Write.contents c.write_full.new.writer) =
+    record {
+      read = record { bytes = _; gone = c.in_ok-n.ensures.bytes };
+      file = _;
+      written = subst (AppendsFront _ _) put c.in_err-write_full.ensures.failed;
+    }
     in
     on_err _ part
 

@@ -1,7 +1,6 @@
 -- `commit` leaves and answers what `judged` says of what was found against it, or of nothing, or it refuses where there is nothing
 -- and a sum is outside. Assumes nothing.
 use mathlib.Core.Path.{sym, ◌∙◌}
-use borrow.Author.Rules.{rules}
 use Rattle.rules.specs.Cause.{is_commit_outside}
 use Rattle.rules.specs.Step.{commit, judged}
 use Rattle.commits.proofs.commit.commit.Goals as goal

@@ -67,7 +67,9 @@ unfolding committed_under
 returns-then-p-ne-STORE c =
     let parent = c.parent-p in
     let n = c.args.n in
-    let time = ap (λ (t : Ledger). commit_time t.table n) c.copy_down.ensures ∙ copied_time _ _ _ in record { time = rw c.end-time.ensures.time time; leaves = rw (
+    let time = ap (λ (t : Ledger). commit_time t.table n) c.copy_down.ensures ∙ copied_time _ _ _ in record {
+      time = rw c.end-time.ensures.time time;
+      leaves = rw (
         ← parent.ensures,
         ne_eqb parent.result 0 c.if-p-ne-STORE.true,
         c.join_sets.ensures,
@@ -75,18 +77,22 @@ returns-then-p-ne-STORE c =
         c.keep_totals.ensures,
         c.end-time.ensures.leaves,
         ← c.copy_down.ensures,
-      ) }
+      );
+    }
 
 pub returns-else-p-ne-STORE : goal.returns-else-p-ne-STORE
 unfolding committed_under
 returns-else-p-ne-STORE c =
     let parent = c.parent-p in
     let n = c.args.n in
-    let time = ap (λ (t : Ledger). commit_time t.table n) c.copy_down.ensures ∙ copied_time _ _ _ in record { time = rw c.end-time.ensures.time time; leaves = rw (
+    let time = ap (λ (t : Ledger). commit_time t.table n) c.copy_down.ensures ∙ copied_time _ _ _ in record {
+      time = rw c.end-time.ensures.time time;
+      leaves = rw (
         ← parent.ensures,
         eq-eqb parent.result 0 c.if-p-ne-STORE.false,
         c.note_ends.ensures,
         c.keep_totals.ensures,
         c.end-time.ensures.leaves,
         ← c.copy_down.ensures,
-      ) }
+      );
+    }

@@ -1,13 +1,9 @@
 -- `copy_down` leaves what all turns leave. The loop's invariant: the ledger is the one at entry with the turns of the accounts
 -- from k up. Assumes nothing.
-use Prim.Native.Nat.{◌≤◌}
 use native.Mathlib.Omega.{arith}
 use mathlib.Core.Path.{◌≡◌, refl, sym}
-use lib.ListN.{length}
 use borrow.Author.Rules.{rules}
-use Rattle.rules.specs.Card.{account_count}
 use Rattle.rules.specs.Ledger.{ledger_of}
-use Rattle.rules.specs.Commit.{copied_down}
 use Rattle.rules.proofs.Copies.Turns.{CanCopy}
 use Rattle.rules.proofs.Copies.Falling.{copied_none}
 use Rattle.commits.proofs.NextTurn.{turn_more, fits_in_turn}
@@ -36,11 +32,11 @@ copy_one-requires-clause-sum_fits c =
     let args = c.args in
     let entry = ledger_of args.table.now args.base.now args.shadow.now in
     let can : CanCopy entry args.n args.p =
-        record {
-          stores = c.requires.stores_fit;
-          own = c.requires.action.0;
-          few = c.requires.has_row_2.known;
-          apart = c.requires.action.1;
-        }
+    record {
+      stores = c.requires.stores_fit;
+      own = c.requires.action.0;
+      few = c.requires.has_row_2.known;
+      apart = c.requires.action.1;
+    }
     in
     fits_in_turn entry _ args.n args.p c.loop-k.k (omega arith) (omega arith) c.loop-k.invariant.4 can c.requires.sums_fit

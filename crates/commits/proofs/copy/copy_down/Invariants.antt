@@ -1,16 +1,11 @@
 -- `copy_down` leaves what all turns leave. The loop's invariant: the ledger is the one at entry with the turns of the accounts
 -- from k up. Assumes nothing.
 use Prim.Native.Nat.{◌≤◌}
-use native.Mathlib.Omega.{arith}
-use mathlib.Core.Path.{◌≡◌, refl, sym}
+use mathlib.Core.Path.{◌≡◌}
 use lib.ListN.{length}
-use borrow.Author.Rules.{rules}
 use Rattle.rules.specs.Card.{account_count}
 use Rattle.rules.specs.Ledger.{ledger_of}
 use Rattle.rules.specs.Commit.{copied_down}
-use Rattle.rules.proofs.Copies.Turns.{CanCopy}
-use Rattle.rules.proofs.Copies.Falling.{copied_none}
-use Rattle.commits.proofs.NextTurn.{turn_more, fits_in_turn}
 use Rattle.commits.proofs.copy.copy_down.Given as goal
 
 abbrev pub invariant-loop-k : goal.invariant-loop-k

@@ -1,5 +1,4 @@
 -- `counter_after` by its test. Assumes nothing.
-use borrow.Author.Rules.{rules}
 use Rattle.commits.proofs.end.counter_after.Goals as goal
 
 pub returns-then-writes : goal.returns-then-writes

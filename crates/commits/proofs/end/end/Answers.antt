@@ -23,21 +23,26 @@ counter_after-next-requires c =
 -- the state that was put leaves the parent, so the end time is still of the action's kind
 pub set_end-requires : goal.set_end-requires
 set_end-requires c =
-    let same = word_other_field c.args.table.now c.args.n state_field parent_field committed (λ z. omega arith) in record { has_row = search rules; of_kind_of = c.end_time_after-time.ensures.kind
+    let same = word_other_field c.args.table.now c.args.n state_field parent_field committed (λ z. omega arith) in record {
+      has_row = search rules;
+      of_kind_of = c.end_time_after-time.ensures.kind
           ∙ c.counter-count.ensures.kind
           ∙ c.kind_of.ensures
-          ∙ rw c.set_state.ensures (ap kind_under (sym same)) }
+          ∙ rw c.set_state.ensures (ap kind_under (sym same));
+    }
 
 pub returns : goal.returns
 unfolding commit_time commit_counter
 returns c =
-    record { time = rw (
+    record {
+      time = rw (
         c.number_of.ensures,
         c.end_time_after-time.ensures.number,
         c.has_writes-writes.ensures,
         c.counter-count.ensures.number,
         c.kind_of.ensures,
-      ); leaves = rw (
+      );
+      leaves = rw (
         c.set_counter.ensures,
         c.set_end.ensures,
         c.set_state.ensures,
@@ -48,4 +53,5 @@ returns c =
         c.counter-count.ensures.kind,
         c.counter-count.ensures.number,
         c.kind_of.ensures,
-      ) }
+      );
+    }

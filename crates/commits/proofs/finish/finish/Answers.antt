@@ -1,6 +1,5 @@
 -- `finish` leaves what `finished` says, by whether a sum of the commit is outside. Assumes nothing.
 use mathlib.Core.Path.{sym, ◌∙◌}
-use borrow.Author.Rules.{rules}
 use Rattle.rules.specs.Step.{finished}
 use Rattle.commits.proofs.finish.finish.Goals as goal
 

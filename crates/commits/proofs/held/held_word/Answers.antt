@@ -1,6 +1,5 @@
 -- `held_word` reads the base amount's word or p's pending sum's, as `held_sum` does. Assumes nothing.
 use mathlib.Core.Path.{sym}
-use borrow.Author.Rules.{rules}
 use borrow.Author.Tests.{eq-eqb, ne_eqb}
 use Rattle.amounts.proofs.Places.{base_amount_at}
 use Rattle.commits.proofs.held.held_word.Goals as goal

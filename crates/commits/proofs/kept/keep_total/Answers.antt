@@ -1,7 +1,6 @@
 -- `keep_total` puts the low word of the sum, which is the sum's word, since the sum is an amount. Assumes nothing.
 use native.Mathlib.Omega.{arith}
 use mathlib.Core.Path.{sym, ap, ◌∙◌}
-use borrow.Author.Rules.{rules}
 use Rattle.rules.specs.Amount.{is_amount}
 use Rattle.amounts.proofs.Sums.{word_of_sum}
 use Rattle.commits.proofs.kept.keep_total.Goals as goal

@@ -1,18 +1,15 @@
 -- `keep_totals` meets its contract: of the sums made from the table at entry those of the accounts from `k` on are left to put
 -- into the present table, `k` the account at the loop's head; and the present table makes the same ones (`Keeping`).
 -- Assumes nothing.
-use Prim.Native.Nat.{◌≤◌, ◌-◌}
 use native.Mathlib.Omega.{arith}
-use mathlib.Core.Path.{◌≡◌, refl, sym, ap, ◌∙◌}
-use lib.ListN.{length}
+use mathlib.Core.Path.{refl, sym, ap, ◌∙◌}
 use borrow.Author.Rules.{rules}
-use Rattle.rules.specs.Card.{account_count, first_charge, charge_accounts, IsCharge}
+use Rattle.rules.specs.Card.{account_count, charge_accounts, IsCharge}
 use Rattle.rules.specs.Amount.{amount_word, is_amount}
-use Rattle.rules.specs.Range.{up_from, fold}
-use Rattle.rules.specs.Table.{with_fields, with_kept, kept_after}
+use Rattle.rules.specs.Table.{with_fields}
 use Rattle.rules.specs.Commit.{keep_table}
 use Rattle.rules.proofs.Laws.Ranges.{fold_left_next, fold_left_done}
-use Rattle.commits.proofs.Keeping.{SameFrom, same_next}
+use Rattle.commits.proofs.Keeping.{same_next}
 use Rattle.commits.proofs.kept.keep_totals.Goals as goal
 
 pub loop-k-init : goal.loop-k-init

@@ -2,17 +2,14 @@
 -- into the present table, `k` the account at the loop's head; and the present table makes the same ones (`Keeping`).
 -- Assumes nothing.
 use Prim.Native.Nat.{◌≤◌, ◌-◌}
-use native.Mathlib.Omega.{arith}
-use mathlib.Core.Path.{◌≡◌, refl, sym, ap, ◌∙◌}
+use mathlib.Core.Path.{◌≡◌}
 use lib.ListN.{length}
-use borrow.Author.Rules.{rules}
-use Rattle.rules.specs.Card.{account_count, first_charge, charge_accounts, IsCharge}
-use Rattle.rules.specs.Amount.{amount_word, is_amount}
+use Rattle.rules.specs.Card.{account_count, first_charge}
+use Rattle.rules.specs.Amount.{amount_word}
 use Rattle.rules.specs.Range.{up_from, fold}
-use Rattle.rules.specs.Table.{with_fields, with_kept, kept_after}
+use Rattle.rules.specs.Table.{with_kept, kept_after}
 use Rattle.rules.specs.Commit.{keep_table}
-use Rattle.rules.proofs.Laws.Ranges.{fold_left_next, fold_left_done}
-use Rattle.commits.proofs.Keeping.{SameFrom, same_next}
+use Rattle.commits.proofs.Keeping.{SameFrom}
 use Rattle.commits.proofs.kept.keep_totals.Given as goal
 
 abbrev pub invariant-loop-k : goal.invariant-loop-k

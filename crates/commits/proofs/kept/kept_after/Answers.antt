@@ -3,7 +3,6 @@ use Prim.Native.Nat.{ℕ, ◌<◌}
 use native.Mathlib.Omega.{arith}
 use mathlib.Core.Path.{◌≡◌, refl, ap, ◌∙◌}
 use lib.IntN.{◌+ℤ◌, +ℤ_assoc}
-use borrow.Author.Rules.{rules}
 use Rattle.rules.specs.Amount.{amount_of}
 use Rattle.amounts.specs.Sum.{word_values, value_of, sum_of, plus_word, HasRoom}
 use Rattle.amounts.proofs.Sums.{value_plus, counted_first, counted_plus, counted_room, room_for_second, value_of_two}

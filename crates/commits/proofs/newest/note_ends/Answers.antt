@@ -1,18 +1,14 @@
 -- `note_ends` meets its contract: of the end times to note by the table at entry those of the accounts from `k` on are left to put
 -- into the present table, `k` the account at the loop's head; by the present table they are the same, and n is a child of p there too
 -- (`Noting`). Assumes nothing.
-use Prim.Native.Nat.{◌≤◌, ◌-◌}
 use native.Mathlib.Omega.{arith}
-use mathlib.Core.Path.{◌≡◌, refl, sym, ◌∙◌}
-use lib.ListN.{length}
+use mathlib.Core.Path.{refl, sym, ◌∙◌}
 use borrow.Author.Rules.{rules}
 use Rattle.rules.specs.Card.{account_count, accounts, IsAccount}
-use Rattle.rules.specs.Range.{up_from, fold}
-use Rattle.rules.specs.Table.{with_fields, with_newest}
-use Rattle.rules.specs.Commit.{newest_after, note_table}
+use Rattle.rules.specs.Table.{with_fields}
+use Rattle.rules.specs.Commit.{note_table}
 use Rattle.rules.proofs.Laws.Ranges.{fold_left_next, fold_left_done}
-use Rattle.rows.specs.Times.{IsChild}
-use Rattle.commits.proofs.Noting.{SameNotes, same_notes_next, child_still}
+use Rattle.commits.proofs.Noting.{same_notes_next, child_still}
 use Rattle.commits.proofs.newest.note_ends.Goals as goal
 
 pub loop-k-init : goal.loop-k-init

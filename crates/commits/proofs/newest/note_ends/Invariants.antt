@@ -2,17 +2,14 @@
 -- into the present table, `k` the account at the loop's head; by the present table they are the same, and n is a child of p there too
 -- (`Noting`). Assumes nothing.
 use Prim.Native.Nat.{◌≤◌, ◌-◌}
-use native.Mathlib.Omega.{arith}
-use mathlib.Core.Path.{◌≡◌, refl, sym, ◌∙◌}
+use mathlib.Core.Path.{◌≡◌}
 use lib.ListN.{length}
-use borrow.Author.Rules.{rules}
-use Rattle.rules.specs.Card.{account_count, accounts, IsAccount}
+use Rattle.rules.specs.Card.{account_count}
 use Rattle.rules.specs.Range.{up_from, fold}
-use Rattle.rules.specs.Table.{with_fields, with_newest}
+use Rattle.rules.specs.Table.{with_newest}
 use Rattle.rules.specs.Commit.{newest_after, note_table}
-use Rattle.rules.proofs.Laws.Ranges.{fold_left_next, fold_left_done}
 use Rattle.rows.specs.Times.{IsChild}
-use Rattle.commits.proofs.Noting.{SameNotes, same_notes_next, child_still}
+use Rattle.commits.proofs.Noting.{SameNotes}
 use Rattle.commits.proofs.newest.note_ends.Given as goal
 
 abbrev pub invariant-loop-k : goal.invariant-loop-k

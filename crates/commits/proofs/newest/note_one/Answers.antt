@@ -1,7 +1,5 @@
 -- `note_one` meets its contract: where the account isn't written, what stands there could be put there again. Assumes nothing.
 use mathlib.Core.Path.{◌∙◌, sym}
-use borrow.Author.Rules.{rules}
-use Rattle.rules.proofs.Laws.Negated.{failed, held}
 use Rattle.rules.proofs.Laws.Words.{with_word_own}
 use Rattle.commits.proofs.newest.note_one.Goals as goal
 

@@ -2,7 +2,6 @@
 -- Assumes nothing.
 use native.Mathlib.Omega.{arith}
 use mathlib.Core.Path.{◌∙◌}
-use borrow.Author.Rules.{rules}
 use Rattle.rules.specs.Cause.{commit_sum}
 use Rattle.amounts.proofs.Sums.{room_for_second, value_of_two}
 use Rattle.commits.proofs.sums.commit_sum.Goals as goal

@@ -1,6 +1,5 @@
 -- `is_commit_outside` asks of the sums where nothing is found against the commit. Assumes nothing.
 use mathlib.Core.Path.{refl}
-use borrow.Author.Rules.{rules}
 use Rattle.rules.specs.Cause.{is_commit_outside}
 use Rattle.commits.proofs.sums.is_commit_outside.Goals as goal
 

@@ -1,6 +1,4 @@
 -- `is_copy_outside` tests the write set and then the sum, as the definition does. Assumes nothing.
-use borrow.Author.Rules.{rules}
-use Rattle.rules.proofs.Laws.Negated.{failed, held}
 use mathlib.Core.Path.{◌∙◌, sym}
 use Rattle.commits.proofs.sums.is_copy_outside.Goals as goal
 

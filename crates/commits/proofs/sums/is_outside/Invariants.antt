@@ -1,15 +1,12 @@
 -- `is_outside` meets its contract: whether a sum of any charge account is outside is whether one of any from `k` on is, `k` the
 -- account at the loop's head, and the test decides `k` itself. Assumes nothing.
 use Prim.Native.Nat.{◌-◌, ◌≤◌}
-use native.Mathlib.Omega.{arith}
-use mathlib.Core.Path.{◌≡◌, refl, sym, ◌∙◌}
+use mathlib.Core.Path.{◌≡◌}
 use mathlib.Core.Bool.{◌||◌}
-use borrow.Author.Rules.{rules}
 use Rattle.rules.specs.Range.{up_from, any}
-use Rattle.rules.specs.Card.{account_count, first_charge, charge_accounts}
+use Rattle.rules.specs.Card.{account_count, first_charge}
 use Rattle.rules.specs.Cause.{is_copy_outside, is_kept_outside, is_commit_outside}
 use Rattle.rules.specs.declared.Found.TheVariants.{Nothing}
-use Rattle.rules.proofs.Laws.Ranges.{any_left_here, any_left_next, any_left_done}
 use Rattle.commits.proofs.sums.is_outside.Given as goal
 
 abbrev pub invariant-loop-k : goal.invariant-loop-k

@@ -1,6 +1,5 @@
 -- `is_sum_outside` tests the copied sum and then the kept one, as the definition does. Assumes nothing.
 use mathlib.Core.Path.{sym, ◌∙◌}
-use borrow.Author.Rules.{rules}
 use Rattle.commits.proofs.sums.is_sum_outside.Goals as goal
 
 pub returns-then-is_copy_outside : goal.returns-then-is_copy_outside

@@ -1,5 +1,4 @@
 -- `put_own_card` puts n's card into the base store or over p's, as `with_held_card` does. Assumes nothing.
-use borrow.Author.Rules.{rules}
 use borrow.Author.Tests.{eq-eqb, ne_eqb}
 use Rattle.rules.specs.Held.{with_held_card}
 use Rattle.commits.proofs.turn.put_own_card.Goals as goal

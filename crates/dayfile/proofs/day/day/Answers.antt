@@ -1,13 +1,10 @@
 -- `day` meets its contract: a refused day puts its one line, any other is run and listed. Assumes nothing.
-use Prim.Native.Nat.{ℕ}
 use native.Mathlib.Omega.{arith}
 use mathlib.Core.Path.{◌≡◌, refl, sym, ap, ◌∙◌}
-use mathlib.Core.List.{List}
-use borrow.Author.Rules.{rules}
 use Rattle.rules.specs.Ledger.{Ledger, ledger_of}
 use Rattle.listing.proofs.Bounds.{refused_fits}
 use Rattle.dayread.proofs.Faultless.{faultless}
-use Rattle.dayfile.specs.Day.{day_cause, Accepts}
+use Rattle.dayfile.specs.Day.{day_cause}
 use Rattle.dayfile.proofs.Days.{accepts, day_refused, day_runs, lines_of_day, day_given}
 use Rattle.dayfile.proofs.day.day.Goals as goal
 
@@ -56,7 +53,7 @@ returns c =
     let leaves = c.run_file-count.ensures.leaves in
     let table = ap (λ (after : Ledger). after.table) leaves in
     let lines =
-        lines_of_day given file _ (accepts given file no_cause) c.run_file-count.ensures.answers c.run_file-count.ensures.count table
+    lines_of_day given file _ (accepts given file no_cause) c.run_file-count.ensures.answers c.run_file-count.ensures.count table
     in
     day_given given file _
     (rw (runs.0, sym lines) c.put_listing.ensures.next)

@@ -1,6 +1,5 @@
 -- `day_cause` gives the cause of a day that isn't run: each exit is the definition at the tests that led there.
 -- Assumes nothing.
-use borrow.Author.Rules.{rules}
 use borrow.Author.Tests.{eq-eqb, ne_eqb}
 use Rattle.rules.specs.Table.{table_length}
 use Rattle.rules.specs.Card.{base_length, shadow_length}

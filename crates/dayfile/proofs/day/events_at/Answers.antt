@@ -1,6 +1,5 @@
 -- `events_at` gives where the events begin: a file without fault has its first byte. Assumes nothing.
 use native.Mathlib.Omega.{arith}
-use borrow.Author.Rules.{rules}
 use Rattle.dayread.proofs.Faultless.{faultless}
 use Rattle.dayfile.proofs.day.events_at.Goals as goal
 

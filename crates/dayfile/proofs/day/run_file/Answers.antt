@@ -2,7 +2,6 @@
 -- which has no reason to refuse them. Assumes nothing.
 use native.Mathlib.Omega.{arith}
 use mathlib.Core.Path.{◌∙◌}
-use borrow.Author.Rules.{rules}
 use Rattle.dayread.proofs.Faultless.{faultless}
 use Rattle.dayfile.proofs.Days.{events_part, file_ran}
 use Rattle.dayfile.proofs.day.run_file.Goals as goal
@@ -27,11 +26,11 @@ returns c =
     let a = c.requires.accepts in
     let f = faultless _ a.clean in
     let ran =
-        file_ran _ _ _ a c.requires.has_answer_room
-        c.«open».ensures.leaves
-        c.open_base.ensures
-        (c.open_base.auto.base ∙ a.base_fits)
-        (events_part c.args.file.now _ c.events_at-at.ensures)
-        c.run.ensures
+    file_ran _ _ _ a c.requires.has_answer_room
+    c.«open».ensures.leaves
+    c.open_base.ensures
+    (c.open_base.auto.base ∙ a.base_fits)
+    (events_part c.args.file.now _ c.events_at-at.ensures)
+    c.run.ensures
     in
     record { count = omega (arith, f.whole, c.events_at-at.ensures); leaves = ran.0; answers = ran.1 }

@@ -1,7 +1,6 @@
 -- `put_report` puts the text that the report's words give, which is the tree's. Assumes nothing.
 use native.Mathlib.Omega.{arith}
 use mathlib.Core.Path.{refl, sym, ap, ◌∙◌}
-use borrow.Author.Rules.{rules}
 use lib.ListN.{length}
 use Rattle.text.specs.Put.{put_at}
 use Rattle.dayfile.proofs.DayTree.{lines_few, lines_given, words_whole, text_given}

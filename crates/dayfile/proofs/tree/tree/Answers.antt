@@ -1,12 +1,8 @@
 -- `tree` meets its contract: a refused day puts its one line, any other is run and its report put. Assumes nothing.
-use Prim.Native.Nat.{ℕ}
 use native.Mathlib.Omega.{arith}
 use mathlib.Core.Path.{◌≡◌, refl, sym, ◌∙◌}
-use mathlib.Core.List.{List}
-use borrow.Author.Rules.{rules}
-use Rattle.rules.specs.Ledger.{Ledger, ledger_of}
+use Rattle.rules.specs.Ledger.{ledger_of}
 use Rattle.listing.proofs.Bounds.{refused_fits}
-use Rattle.dayfile.specs.Day.{Accepts}
 use Rattle.dayfile.specs.Tree.{day_tree_cause}
 use Rattle.dayfile.proofs.Days.{accepts}
 use Rattle.dayfile.proofs.DayTree.{tree_accepts, tree_refused, has_report, tree_runs}

@@ -1,5 +1,4 @@
 -- `tree_cause` asks of the opening store, and then what a day asks. Assumes nothing.
-use borrow.Author.Rules.{rules}
 use borrow.Author.Tests.{eq-eqb, ne_eqb}
 use Rattle.rules.specs.Card.{base_length}
 use Rattle.dayfile.specs.Tree.{day_tree_cause}

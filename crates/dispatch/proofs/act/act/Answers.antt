@@ -5,15 +5,13 @@ use mathlib.Core.List.{List}
 use native.Mathlib.Omega.{arith}
 use mathlib.Core.Path.{refl}
 use mathlib.Core.Logic.{◌≢◌}
-use borrow.Author.Rules.{rules}
 use borrow.Author.Tests.{eq-eqb}
 use Rattle.rules.specs.Sound.{Sound}
 use Rattle.rules.specs.Event.{Event, event_of, start_code, write_code, judge_code, is_read}
-use Rattle.rules.specs.Ledger.{Ledger, ledger_of}
+use Rattle.rules.specs.Ledger.{ledger_of}
 use Rattle.rules.specs.Step.{start, write}
 use Rattle.rules.proofs.Laws.Tests.{or_inl, or_inr}
 use Rattle.rules.proofs.Laws.Allowed.{EarlyAllowed, early_allowed}
-use Rattle.causes.proofs.Grouped.{Accepted}
 use Rattle.dispatch.specs.Turn.{MayTurn}
 use Rattle.dispatch.proofs.Permitted.{own_number, may_read, may_commit, may_add}
 use Rattle.dispatch.proofs.Summed.{step_of_start, step_of_read, step_of_write, step_of_commit, step_of_add, step_of_turn}

@@ -2,7 +2,7 @@
 use native.Mathlib.Omega.{arith}
 use mathlib.Core.Path.{refl}
 use borrow.Author.Tests.{ne_eqb}
-use Rattle.rules.specs.Event.{Event, event_of, read_code, commit_code, add_code}
+use Rattle.rules.specs.Event.{event_of, read_code, commit_code, add_code}
 use Rattle.rules.specs.Cause.{are_outside}
 use Rattle.rules.proofs.Laws.Allowed.{EarlyAllowed, early_allowed}
 use Rattle.dispatch.proofs.Permitted.{may_read, may_add, may_commit}
@@ -46,8 +46,7 @@ is_add_outside-requires c =
 pub is_commit_outside-requires-clause-sound : goal.is_commit_outside-requires-clause-sound
 is_commit_outside-requires-clause-sound c =
     let event = event_of c.args.code c.args.number c.args.account c.args.card.now in
-    let allowed : EarlyAllowed c.args.table.now event = early_allowed _ _ c.requires.card_value in
-    (
+    let allowed : EarlyAllowed c.args.table.now event = early_allowed _ _ c.requires.card_value in (
       c.requires.sound,
       may_commit c.requires.sound allowed (λ starts. omega (arith, starts, c.if-code-eq-COMMIT.true)),
     )

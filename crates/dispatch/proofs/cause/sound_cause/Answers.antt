@@ -1,9 +1,7 @@
 -- `sound_cause` gives an early cause where one applies, and else asks of the sums. Assumes nothing.
-use mathlib.Core.Path.{◌≡◌, sym, ap, ◌∙◌}
+use mathlib.Core.Path.{sym, ap, ◌∙◌}
 use mathlib.Core.Bool.{cond}
-use borrow.Author.Rules.{rules}
-use Rattle.rules.specs.Event.{event_of}
-use Rattle.rules.specs.Cause.{sum_cause, later_cause}
+use Rattle.rules.specs.Cause.{sum_cause}
 use Rattle.causes.proofs.Grouped.{later_asked, later_summed}
 use Rattle.dispatch.proofs.cause.sound_cause.Goals as goal
 

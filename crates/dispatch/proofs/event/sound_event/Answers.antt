@@ -1,7 +1,6 @@
 -- `sound_event` meets its contract: over a sound table and stores that fit, an early cause that is given is the event's.
 -- Assumes nothing.
 use mathlib.Core.Path.{sym, ◌∙◌}
-use borrow.Author.Rules.{rules}
 use borrow.Author.Tests.{ne_eqb}
 use Rattle.rules.specs.Step.{step}
 use Rattle.causes.proofs.Grouped.{event_asked}

@@ -1,5 +1,4 @@
 -- `listed_cause` meets its contract: the bytes that it reads are those of `event_at`. Assumes nothing.
-use borrow.Author.Rules.{rules}
 use Rattle.dispatch.proofs.CardPart.{card_size}
 use Rattle.dispatch.proofs.listed.listed_cause.Goals as goal
 

@@ -1,6 +1,5 @@
 -- `turn` meets its contract: an enter, a judge or an abort has what it asks for, and gives what the rule makes of its code.
 -- Assumes nothing.
-use borrow.Author.Rules.{rules}
 use borrow.Author.Tests.{ne_eqb}
 use Rattle.rules.specs.Step.{enter}
 use Rattle.dispatch.specs.Turn.{turn}

@@ -1,7 +1,6 @@
 -- `cause` asks causes 1 and 2 first, and where neither applies those of an event on a sound table. Assumes nothing.
 use mathlib.Core.Path.{sym, ◌∙◌}
-use borrow.Author.Rules.{rules}
-use Rattle.causes.proofs.Grouped.{Accepted, stores_accepted, event_refused, event_accepted}
+use Rattle.causes.proofs.Grouped.{stores_accepted, event_refused, event_accepted}
 use Rattle.engine.proofs.event.cause.Goals as goal
 
 pub returns-then-first-ne-NONE : goal.returns-then-first-ne-NONE

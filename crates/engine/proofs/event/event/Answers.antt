@@ -3,7 +3,6 @@
 use Prim.Native.Nat.{ℕ}
 use mathlib.Core.Path.{◌≡◌, ap}
 use mathlib.Core.List.{List}
-use borrow.Author.Rules.{rules}
 use borrow.Author.Tests.{ne_eqb}
 use Rattle.rules.specs.declared.Answer.{Answer}
 use Rattle.rules.specs.Answer.{said}
@@ -28,8 +27,8 @@ unfolding step
 returns-then-outer-ne-NONE c =
     let event = event_of c.args.code c.args.number c.args.account c.args.card.now in
     let given :
-        cause_of c.args.table.now c.args.base.now c.args.shadow.now event ≡ c.store_cause-outer.result =
-        event_refused _ _ _ _ c.store_cause-outer.ensures c.if-outer-ne-NONE.true
+    cause_of c.args.table.now c.args.base.now c.args.shadow.now event ≡ c.store_cause-outer.result =
+    event_refused _ _ _ _ c.store_cause-outer.ensures c.if-outer-ne-NONE.true
     in
     gives (rw (given, ne_eqb _ 0 c.if-outer-ne-NONE.true))
 

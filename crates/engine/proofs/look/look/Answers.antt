@@ -6,12 +6,8 @@ use mathlib.Core.Path.{◌≡◌, refl}
 use mathlib.Core.List.{List}
 use lib.ListN.{length, take, drop, length-drop}
 use lib.Seq.{length-take-le}
-use borrow.Author.Rules.{rules}
 use borrow.Author.Tests.{ne_eqb}
 use Rattle.rules.specs.Card.{card_length}
-use Rattle.rules.specs.Table.{most_actions}
-use Rattle.rules.specs.Event.{read_by}
-use Rattle.rules.proofs.Laws.Allowed.{Allowed}
 use Rattle.engine.proofs.Sights.{refused_look, refused_moves, given_look, given_allowed, holder_few}
 use Rattle.engine.proofs.look.look.Goals as goal
 
@@ -52,7 +48,7 @@ returns-then-holder-eq-STORE c =
     let clear = c.if-found-ne-NONE.false in
     let read = given_allowed _ _ _ _ _ c.sight_of-found.result c.sight_of-found.ensures c.if-found-ne-NONE.false in
     let inside : c.base_place-from.result + card_length ≤ length c.args.base.now =
-        omega (arith, c.base_place-from.ensures, read.early.account_known refl, read.base_fits)
+    omega (arith, c.base_place-from.ensures, read.early.account_known refl, read.base_fits)
     in
     rw (
       given_look _ _ _ _ _ found.result found.ensures clear,
@@ -87,7 +83,7 @@ returns c =
     let read = given_allowed _ _ _ _ _ c.sight_of-found.result c.sight_of-found.ensures c.if-found-ne-NONE.false in
     let few = holder_few _ _ _ _ _ c.sight_of-found.result c.sight_of-found.ensures c.if-found-ne-NONE.false in
     let inside : c.shadow_place-from.result + card_length ≤ length c.args.shadow.now =
-        omega (arith, c.shadow_place-from.ensures, few, read.early.account_known refl, read.shadow_fits)
+    omega (arith, c.shadow_place-from.ensures, few, read.early.account_known refl, read.shadow_fits)
     in
     rw (
       given_look _ _ _ _ _ found.result found.ensures clear,

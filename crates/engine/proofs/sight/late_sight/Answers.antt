@@ -1,11 +1,8 @@
 -- `late_sight` finds the nearest version, and of a charge account the base card, by the walk that finds its sum too.
 -- Assumes nothing.
-use mathlib.Core.Path.{◌≡◌, sym, ap, ap₂, ◌∙◌}
-use borrow.Author.Rules.{rules}
+use mathlib.Core.Path.{sym, ap, ap₂, ◌∙◌}
 use borrow.Author.Tests.{le-leb, lt-leb, not-true, not-false}
 use Rattle.rules.specs.Card.{first_charge}
-use Rattle.rules.specs.Amount.{is_amount}
-use Rattle.rules.specs.Nearest.{read_sum}
 use Rattle.rules.specs.Cause.{is_read_outside}
 use Rattle.rules.proofs.Laws.Walking.{sound_climbs}
 use Rattle.rules.proofs.Laws.Charges.{nearest_charge}

@@ -2,13 +2,11 @@
 -- Assumes nothing.
 use mathlib.Core.Path.{◌≡◌, refl, sym, ◌∙◌}
 use mathlib.Core.List.{[]}
-use borrow.Author.Rules.{rules}
 use Rattle.rules.specs.Event.{read_by}
 use Rattle.rules.specs.Cause.{first_cause, early_causes}
-use Rattle.rules.specs.Look.{look_cause}
 use Rattle.rules.proofs.Laws.Allowed.{early_allowed}
 use Rattle.rules.proofs.Stores.Looking.{look_refused_as_read}
-use Rattle.causes.proofs.Grouped.{Accepted, stores_accepted, event_refused, event_asked}
+use Rattle.causes.proofs.Grouped.{stores_accepted, event_refused, event_asked}
 use Rattle.engine.proofs.Sights.{sight_refused, sight_late}
 use Rattle.engine.proofs.sight.sight_of.Goals as goal
 
@@ -16,7 +14,7 @@ use Rattle.engine.proofs.sight.sight_of.Goals as goal
 pub returns-then-outer-ne-NONE : goal.returns-then-outer-ne-NONE
 returns-then-outer-ne-NONE c =
     let given =
-        look_refused_as_read _ _ _ _ _ [] ∙ event_refused _ _ _ _ c.store_cause-outer.ensures c.if-outer-ne-NONE.true
+    look_refused_as_read _ _ _ _ _ [] ∙ event_refused _ _ _ _ c.store_cause-outer.ensures c.if-outer-ne-NONE.true
     in
     c.refused_sight.ensures ∙ sym (sight_refused _ _ _ _ _ given c.if-outer-ne-NONE.true)
 
@@ -29,8 +27,8 @@ pub returns-then-inner-ne-NONE : goal.returns-then-inner-ne-NONE
 returns-then-inner-ne-NONE c =
     let accepted = stores_accepted _ _ _ c.store_cause-outer.ensures c.if-outer-ne-NONE.false in
     let asked =
-        look_refused_as_read _ _ _ _ _ []
-        ∙ event_asked _ _ _ _ accepted c.event_cause-inner.ensures c.if-inner-ne-NONE.true
+    look_refused_as_read _ _ _ _ _ []
+    ∙ event_asked _ _ _ _ accepted c.event_cause-inner.ensures c.if-inner-ne-NONE.true
     in
     c.refused_sight-then-inner-ne-NONE.ensures ∙ sym (sight_refused _ _ _ _ _ asked c.if-inner-ne-NONE.true)
 
@@ -38,7 +36,7 @@ returns-then-inner-ne-NONE c =
 pub late_sight-requires : goal.late_sight-requires
 late_sight-requires c =
     let none_early : first_cause (early_causes c.args.table.now (read_by c.args.n c.args.k)) ≡ 0 =
-        sym c.event_cause-inner.ensures ∙ c.if-inner-ne-NONE.false
+    sym c.event_cause-inner.ensures ∙ c.if-inner-ne-NONE.false
     in
     let read = early_allowed _ _ none_early in
     let (fits, sound) = stores_accepted _ _ _ c.store_cause-outer.ensures c.if-outer-ne-NONE.false in
@@ -50,6 +48,6 @@ late_sight-requires c =
 pub returns : goal.returns
 returns c =
     let none_early : first_cause (early_causes c.args.table.now (read_by c.args.n c.args.k)) ≡ 0 =
-        sym c.event_cause-inner.ensures ∙ c.if-inner-ne-NONE.false
+    sym c.event_cause-inner.ensures ∙ c.if-inner-ne-NONE.false
     in
     c.late_sight.ensures ∙ sym (sight_late _ _ _ _ _ (stores_accepted _ _ _ c.store_cause-outer.ensures c.if-outer-ne-NONE.false) none_early)

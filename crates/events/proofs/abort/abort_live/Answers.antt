@@ -1,10 +1,8 @@
 -- `abort_live` meets its contract. The loop's invariant: the abort has come to action `m`, with `found` aborted so far
 -- (`Reached`). The measure is what is left of the actions. Assumes nothing.
-use Prim.Native.Nat.{◌-◌}
 use native.Mathlib.Omega.{arith}
 use mathlib.Core.Path.{sym, ◌∙◌}
-use borrow.Author.Rules.{rules}
-use Rattle.events.proofs.AbortMarks.{Reached, reached_first, live_climb_kept, known_kept, found_few, reached_over, reached_here, reached_last}
+use Rattle.events.proofs.AbortMarks.{reached_first, live_climb_kept, known_kept, found_few, reached_over, reached_here, reached_last}
 use Rattle.events.proofs.abort.abort_live.Goals as goal
 use Rattle.events.proofs.abort.abort_live.Goals.{then-is_aborted_by, else-is_aborted_by}
 
@@ -28,11 +26,11 @@ loop-m-preserved c =
     let reached = c.loop-m.invariant in
     let tested = sym c.is_aborted_by.ensures in
     elim c.if-is_aborted_by.branch [
-      then-is_aborted_by w ↦
-        rw (w.table-is, w.found-is, w.set_state.ensures)
-        (reached_here _ _ reached c.requires (omega arith) (tested ∙ w.if-is_aborted_by.true))
-    | else-is_aborted_by w ↦
-        rw (w.table-is, w.found-is) (reached_over _ _ reached c.requires (omega arith) (tested ∙ w.if-is_aborted_by.false))
+      | then-is_aborted_by w ↦
+          rw (w.table-is, w.found-is, w.set_state.ensures)
+          (reached_here _ _ reached c.requires (omega arith) (tested ∙ w.if-is_aborted_by.true))
+      | else-is_aborted_by w ↦
+          rw (w.table-is, w.found-is) (reached_over _ _ reached c.requires (omega arith) (tested ∙ w.if-is_aborted_by.false))
     ]
 
 pub returns : goal.returns

@@ -1,11 +1,7 @@
 -- `abort_live` meets its contract. The loop's invariant: the abort has come to action `m`, with `found` aborted so far
 -- (`Reached`). The measure is what is left of the actions. Assumes nothing.
 use Prim.Native.Nat.{◌-◌}
-use native.Mathlib.Omega.{arith}
-use mathlib.Core.Path.{sym, ◌∙◌}
-use mathlib.Core.Logic.{⊎_elim}
-use borrow.Author.Rules.{rules}
-use Rattle.events.proofs.AbortMarks.{Reached, reached_first, live_climb_kept, known_kept, found_few, reached_over, reached_here, reached_last}
+use Rattle.events.proofs.AbortMarks.{Reached}
 use Rattle.events.proofs.abort.abort_live.Given as goal
 
 abbrev pub invariant-loop-m : goal.invariant-loop-m

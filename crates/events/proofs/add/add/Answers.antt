@@ -1,6 +1,5 @@
 -- `add` refuses an add with a sum that is no amount, and else puts both sums. Assumes nothing.
 use mathlib.Core.Path.{refl, sym, ◌∙◌}
-use borrow.Author.Rules.{rules}
 use Rattle.events.proofs.add.add.Goals as goal
 
 pub returns-then-is_add_outside : goal.returns-then-is_add_outside

@@ -1,15 +1,13 @@
 -- `is_add_outside` makes the pending sum and then the own adds with the card's amount, and asks whether each is an amount.
 -- Assumes nothing.
 use mathlib.Core.Path.{◌≡◌, sym, ap, ◌∙◌}
-use Prim.Native.Nat.{ℕ, ◌<◌}
+use Prim.Native.Nat.{ℕ}
 use mathlib.Core.List.{List}
 use mathlib.Core.Bool.{Bool}
 use lib.IntN.{ℤ, ◌+ℤ◌}
 use Rattle.amounts.specs.declared.sum.Sum.{Sum}
-use Rattle.amounts.specs.Sum.{value_of, word_values}
-use borrow.Author.Rules.{rules}
+use Rattle.amounts.specs.Sum.{value_of}
 use Rattle.rules.specs.Amount.{amount_of, is_amount, amount_in}
-use Rattle.rules.specs.Table.{pending_sum, own_adds}
 use Rattle.events.proofs.add.is_add_outside.Goals as goal
 
 -- the test of a sum, as it was made, is that of its value

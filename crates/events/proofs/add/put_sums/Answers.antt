@@ -2,13 +2,11 @@
 -- theirs. Assumes nothing.
 use native.Mathlib.Omega.{arith}
 use mathlib.Core.Path.{◌≡◌, ap, sym, ◌∙◌}
-use mathlib.Core.Bool.{Bool, true}
+use mathlib.Core.Bool.{true}
 use Prim.Native.Nat.{ℕ, ◌<◌}
-use mathlib.Core.List.{List}
 use lib.IntN.{ℤ, ◌+ℤ◌}
 use Rattle.amounts.specs.declared.sum.Sum.{Sum}
 use Rattle.amounts.specs.Sum.{value_of, word_values}
-use borrow.Author.Rules.{rules}
 use Rattle.rules.specs.Amount.{amount_of, amount_word, is_amount, amount_in}
 use Rattle.rules.specs.Table.{pending_sum, own_adds}
 use Rattle.rules.specs.Step.{add_table}

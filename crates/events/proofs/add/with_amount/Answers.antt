@@ -2,7 +2,6 @@
 use native.Mathlib.Omega.{arith}
 use mathlib.Core.Path.{ap, ◌∙◌}
 use lib.IntN.{◌+ℤ◌}
-use borrow.Author.Rules.{rules}
 use Rattle.rules.specs.Amount.{amount_of, amount_in}
 use Rattle.amounts.specs.Sum.{value_of, plus_word}
 use Rattle.amounts.proofs.Sums.{room_for_second, value_of_two}

@@ -3,8 +3,7 @@
 use native.Mathlib.Omega.{arith}
 use mathlib.Core.Path.{◌≡◌, refl, sym, ◌∙◌}
 use mathlib.Core.Logic.{⊎_elim}
-use mathlib.Core.Bool.{true, false}
-use borrow.Author.Rules.{rules}
+use mathlib.Core.Bool.{true}
 use Rattle.rules.specs.Kind.{top_kind}
 use Rattle.rules.specs.Table.{has_read}
 use Rattle.rules.specs.Step.{leaves_read_set, read_table}
@@ -21,10 +20,10 @@ unfolding read_table
 returns-then-read c =
     let args = c.args in
     let left : leaves_read_set args.table.now args.n args.k ≡ true =
-        ⊎_elim
-        (λ read. or_inl _ (sym c.has_read-read.ensures ∙ read))
-        (λ unread. or_inr (has_read args.table.now args.n args.k) (sym c.has_card-own.ensures ∙ unread.1))
-        c.then-read.either
+    ⊎_elim
+    (λ read. or_inl _ (sym c.has_read-read.ensures ∙ read))
+    (λ unread. or_inr (has_read args.table.now args.n args.k) (sym c.has_card-own.ensures ∙ unread.1))
+    c.then-read.either
     in
     rw left refl
 

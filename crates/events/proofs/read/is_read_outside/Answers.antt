@@ -1,7 +1,6 @@
 -- `is_read_outside` asks of a charge account whether the sum that is seen is an amount, and of no other. Assumes nothing.
 use mathlib.Core.Path.{ap}
 use mathlib.Core.Bool.{not}
-use borrow.Author.Rules.{rules}
 use borrow.Author.Tests.{le-leb, lt-leb}
 use Rattle.rules.specs.Card.{first_charge}
 use Rattle.rules.specs.Cause.{is_read_outside}

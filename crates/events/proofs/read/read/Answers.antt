@@ -1,12 +1,9 @@
 -- `read` answers the nearest version, and of a charge account the base card's with the sum that is seen there. Where that sum is
 -- no amount the read is refused and the table stays. Assumes nothing.
-use mathlib.Core.Path.{◌≡◌, refl, sym, ap, ap₂, ◌∙◌}
-use borrow.Author.Rules.{rules}
+use mathlib.Core.Path.{refl, sym, ap, ap₂, ◌∙◌}
 use borrow.Author.Tests.{le-leb, lt-leb, not-true, not-false}
 use Rattle.rules.specs.declared.Answer.TheVariants.{Read, ReadSum}
 use Rattle.rules.specs.Card.{first_charge}
-use Rattle.rules.specs.Amount.{is_amount}
-use Rattle.rules.specs.Nearest.{read_sum}
 use Rattle.rules.specs.Cause.{is_read_outside}
 use Rattle.rules.specs.Step.{read_answer}
 use Rattle.rules.proofs.Laws.Walking.{sound_climbs}

@@ -1,5 +1,4 @@
 -- `clear_accounts` clears the fields one after the other, in the order of its contract. Assumes nothing.
-use borrow.Author.Rules.{rules}
 use Rattle.events.proofs.start.clear_accounts.Goals as goal
 
 pub returns : goal.returns

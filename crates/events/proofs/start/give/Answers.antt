@@ -1,5 +1,4 @@
 -- `give` puts the fields of the new action one by one, in the order of `give_table`. Assumes nothing.
-use borrow.Author.Rules.{rules}
 use Rattle.rules.specs.Step.{give_table}
 use Rattle.events.proofs.start.give.Goals as goal
 

@@ -1,9 +1,7 @@
 -- `orphan` meets its contract. The loop's invariant: the pass has come to action `m` (`PassedTo`). The measure is what is left of
 -- the actions. Assumes nothing.
 use Prim.Native.Nat.{◌-◌}
-use native.Mathlib.Omega.{arith}
-use borrow.Author.Rules.{rules}
-use Rattle.events.proofs.Orphans.{PassedTo, passed_none, passed_one, passed_all}
+use Rattle.events.proofs.Orphans.{PassedTo}
 use Rattle.events.proofs.start.orphan.Given as goal
 
 abbrev pub invariant-loop-m : goal.invariant-loop-m

@@ -1,5 +1,4 @@
 -- `orphan_one` meets its contract: each way out is one outcome of the test. Assumes nothing.
-use borrow.Author.Rules.{rules}
 use borrow.Author.Tests.{eq-eqb, ne_eqb}
 use Rattle.events.proofs.start.orphan_one.Goals as goal
 

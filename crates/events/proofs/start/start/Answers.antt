@@ -1,5 +1,4 @@
 -- `start` gives the number that the table has free. Assumes nothing.
-use borrow.Author.Rules.{rules}
 use Rattle.rules.proofs.Laws.Freeing.{next_givable}
 use Rattle.events.proofs.start.start.Goals as goal
 

@@ -1,5 +1,4 @@
 -- `write` leaves the account in the write set and the card at the action's place. Assumes nothing.
-use borrow.Author.Rules.{rules}
 use Rattle.rules.specs.Step.{write_table}
 use Rattle.events.proofs.write.write.Goals as goal
 

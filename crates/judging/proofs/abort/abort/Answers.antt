@@ -1,6 +1,5 @@
 -- `abort` answers and leaves what the rule's abort does: whom it reaches is taken out of the queues and then aborted, each of which
 -- keeps the table sound, and then the heads are tried. Assumes nothing.
-use borrow.Author.Rules.{rules}
 use Rattle.rules.specs.Ledger.{ledger_of}
 use Rattle.rules.specs.Step.{dropped, abort_left, abort}
 use Rattle.rules.proofs.Sound.TakingOut.{out_sound}

@@ -1,6 +1,5 @@
 -- `enter` puts the action at the tail of its queue with the verdict that is settled. There is room: those who wait are distinct
 -- actions, and this one isn't among them. Assumes nothing.
-use borrow.Author.Rules.{rules}
 use Rattle.rules.specs.Step.{enter_table}
 use Rattle.rules.proofs.Sound.QueueChanges.{room_at_tail}
 use Rattle.queue.proofs.OwnQueue.{own_kind, sound_line}

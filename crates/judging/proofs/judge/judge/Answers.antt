@@ -5,8 +5,7 @@ use mathlib.Core.Bool.{Bool}
 use mathlib.Core.Path.{ap}
 use native.Mathlib.Omega.{arith}
 use borrow.Author.Rules.{rules}
-use Rattle.rules.specs.Kind.{IsKind}
-use Rattle.rules.specs.Table.{parent_of, kind_of}
+use Rattle.rules.specs.Table.{parent_of}
 use Rattle.rules.specs.Sound.{Sound}
 use Rattle.judging.specs.Asked.{IsQueued}
 use Rattle.rules.specs.Ledger.{Ledger, ledger_of}

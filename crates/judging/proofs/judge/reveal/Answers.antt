@@ -1,7 +1,6 @@
 -- `reveal` leaves what `revealed_table` says, by whether the verdict is failed. Assumes nothing.
 use native.Mathlib.Omega.{arith}
 use borrow.Author.Rules.{rules}
-use Rattle.rules.specs.Kind.{IsKind}
 use Rattle.rules.proofs.Laws.Kinds.{kind_known}
 use Rattle.queue.proofs.OwnQueue.{own_kind, sound_line, stands_once, are_known}
 use Rattle.judging.specs.Reveal.{revealed_table}

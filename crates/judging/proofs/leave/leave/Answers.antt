@@ -2,12 +2,11 @@
 -- entry (`StillLeaving`). The measure is the queue's length. Assumes nothing.
 use native.Mathlib.Omega.{arith}
 use mathlib.Core.Path.{sym, ap, ◌∙◌}
-use borrow.Author.Rules.{rules}
 use Rattle.rules.specs.Queue.{queue_length}
 use Rattle.rules.specs.Ledger.{Ledger, ledger_of}
 use Rattle.rules.proofs.Sound.Leaving.{one_fewer}
 use Rattle.queue.proofs.OwnQueue.{sound_line}
-use Rattle.judging.proofs.Leaving.{StillLeaving, leaving_first, leaving_next, leaving_last}
+use Rattle.judging.proofs.Leaving.{leaving_first, leaving_next, leaving_last}
 use Rattle.judging.proofs.leave.leave.Goals as goal
 
 pub loop-table-init : goal.loop-table-init

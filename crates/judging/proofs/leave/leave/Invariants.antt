@@ -1,13 +1,8 @@
 -- `leave` meets its contract. The loop's invariant: what is left to leave now, with those who have left, is what was to leave at
 -- entry (`StillLeaving`). The measure is the queue's length. Assumes nothing.
-use native.Mathlib.Omega.{arith}
-use mathlib.Core.Path.{sym, ap, ◌∙◌}
-use borrow.Author.Rules.{rules}
 use Rattle.rules.specs.Queue.{queue_length}
-use Rattle.rules.specs.Ledger.{Ledger, ledger_of}
-use Rattle.rules.proofs.Sound.Leaving.{one_fewer}
-use Rattle.queue.proofs.OwnQueue.{sound_line}
-use Rattle.judging.proofs.Leaving.{StillLeaving, leaving_first, leaving_next, leaving_last}
+use Rattle.rules.specs.Ledger.{ledger_of}
+use Rattle.judging.proofs.Leaving.{StillLeaving}
 use Rattle.judging.proofs.leave.leave.Given as goal
 
 abbrev pub invariant-loop-table : goal.invariant-loop-table

@@ -2,7 +2,6 @@
 -- other queue is left. Assumes nothing.
 use native.Mathlib.Omega.{arith}
 use mathlib.Core.Path.{ap}
-use borrow.Author.Rules.{rules}
 use Rattle.rules.specs.Kind.{top_kind, sub_kind}
 use Rattle.rules.specs.Sound.{Sound}
 use Rattle.rules.specs.Ledger.{Ledger, ledger_of}

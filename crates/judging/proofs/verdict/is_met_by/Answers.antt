@@ -1,5 +1,4 @@
 -- `is_met_by` meets its contract: it compares the parents and then asks the sets, as the definition does. Assumes nothing.
-use borrow.Author.Rules.{rules}
 use borrow.Author.Tests.{eq-eqb, ne_eqb}
 use Rattle.rules.specs.Verdict.{is_met_by}
 use Rattle.judging.proofs.verdict.is_met_by.Goals as goal

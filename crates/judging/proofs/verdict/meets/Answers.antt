@@ -1,12 +1,8 @@
 -- `meets` meets its contract: whether any account is one that `m` has written and `n` has read is whether any account from `k` on
 -- is, `k` the account at the loop's head, and the test decides `k` itself. Assumes nothing.
-use Prim.Native.Nat.{◌≤◌, ◌-◌}
 use native.Mathlib.Omega.{arith}
-use mathlib.Core.Path.{◌≡◌, refl, sym, ◌∙◌}
-use borrow.Author.Rules.{rules}
+use mathlib.Core.Path.{refl, sym, ◌∙◌}
 use Rattle.rules.specs.Card.{accounts, account_count}
-use Rattle.rules.specs.Range.{up_from, any}
-use Rattle.rules.specs.Ahead.{is_read_ahead}
 use Rattle.rules.specs.Verdict.{meets}
 use Rattle.rules.proofs.Laws.Ranges.{any_left_here, any_left_next, any_left_done}
 use Rattle.judging.proofs.verdict.meets.Goals as goal

@@ -1,6 +1,5 @@
 -- `verdict` meets its contract: the search for a clash decides first, and then those who wait. Assumes nothing.
 use mathlib.Core.Path.{sym, ◌∙◌}
-use borrow.Author.Rules.{rules}
 use Rattle.rules.specs.Verdict.{verdict_of}
 use Rattle.judging.proofs.verdict.verdict.Goals as goal
 

@@ -2,7 +2,6 @@
 use Prim.Native.Nat.{ℕ, ◌+◌, ◌-◌}
 use native.Mathlib.Omega.{arith}
 use mathlib.Core.Path.{◌≡◌}
-use borrow.Author.Rules.{rules}
 use Rattle.rules.specs.Card.{card_length}
 use Rattle.rules.specs.Encoding.{event_length}
 use Rattle.lists.proofs.run.listed_event.Goals as goal

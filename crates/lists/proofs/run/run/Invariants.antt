@@ -1,14 +1,8 @@
 -- `run` meets its contract. The loop's invariant: the first i events are done, and what is left leaves and answers
 -- what the whole list does. The measure is the number of events that are left. Assumes nothing.
 use Prim.Native.Nat.{◌-◌}
-use native.Mathlib.Omega.{arith}
-use mathlib.Core.Path.{sym, ◌∙◌}
-use borrow.Author.Rules.{rules}
 use Rattle.rules.specs.Ledger.{ledger_of}
-use Rattle.rules.specs.Encoding.{events_in}
-use Rattle.rules.specs.Cause.{length_cause}
-use Rattle.causes.proofs.Grouped.{Accepted, stores_accepted}
-use Rattle.lists.proofs.ListRun.{Done, none_done, one_done, all_done, list_refused, list_ran, list_stores_cause, cut_cause, no_room_cause, no_list_cause}
+use Rattle.lists.proofs.ListRun.{Done}
 use Rattle.lists.proofs.run.run.Given as goal
 
 abbrev pub invariant-loop-i : goal.invariant-loop-i

@@ -1,5 +1,4 @@
 -- `store_answer` stores the four words of the answer. Assumes nothing.
-use borrow.Author.Rules.{rules}
 use Rattle.rules.proofs.Laws.AnswerWords.{four_words}
 use Rattle.lists.proofs.run.store_answer.Goals as goal
 

@@ -3,7 +3,6 @@
 use native.Mathlib.Numerals.{add-one, add-two, add-three}
 use native.Mathlib.Omega.{arith}
 use mathlib.Core.List.{[], ◌∷◌}
-use borrow.Author.Rules.{rules}
 use lib.ListN.{length-set}
 use lib.Seq.{sets-eq}
 use Rattle.lists.proofs.run.store_words.Goals as goal

@@ -3,7 +3,6 @@ use native.Mathlib.Numerals.{add-one, add-two, add-three}
 use native.Mathlib.Omega.{arith}
 use mathlib.Core.Path.{ap, ◌∙◌}
 use lib.ListN.{length-set}
-use borrow.Author.Rules.{rules}
 use Rattle.rules.specs.Tree.{balance_words}
 use Rattle.rules.proofs.Laws.Amounts.{word_read_back}
 use Rattle.amounts.specs.Word.{word_at}

@@ -5,9 +5,9 @@ use mathlib.Core.List.{List, flat_map}
 use Prim.Native.Nat.{ℕ, ◌-◌}
 use lib.ListN.{length}
 use Rattle.rules.specs.Range.{up_from}
-use Rattle.rules.specs.Card.{account_count, charge_accounts}
+use Rattle.rules.specs.Card.{charge_accounts}
 use Rattle.rules.specs.Tree.{balance_length, block_place, report_length, balance_words}
-use Rattle.report.proofs.Words.{PutSoFar, put_first, room_here, put_next, put_last}
+use Rattle.report.proofs.Words.{put_first, room_here, put_next, put_last}
 use Rattle.report.proofs.balance.put_block.Goals as goal
 
 one_line : (table base opening : List ℕ) (k : ℕ) → length (balance_words table base opening k) ≡ balance_length

@@ -1,13 +1,8 @@
 -- `put_block` puts the line of one account behind that of the other. Assumes nothing.
-use native.Mathlib.Omega.{arith}
-use mathlib.Core.Path.{◌≡◌, refl}
-use mathlib.Core.List.{List, flat_map}
-use Prim.Native.Nat.{ℕ, ◌-◌}
-use lib.ListN.{length}
-use Rattle.rules.specs.Range.{up_from}
-use Rattle.rules.specs.Card.{account_count, charge_accounts}
-use Rattle.rules.specs.Tree.{balance_length, block_place, report_length, balance_words}
-use Rattle.report.proofs.Words.{PutSoFar, put_first, room_here, put_next, put_last}
+use Prim.Native.Nat.{◌-◌}
+use Rattle.rules.specs.Card.{account_count}
+use Rattle.rules.specs.Tree.{block_place, balance_words}
+use Rattle.report.proofs.Words.{PutSoFar}
 use Rattle.report.proofs.balance.put_block.Given as goal
 
 abbrev pub invariant-loop-k : goal.invariant-loop-k

@@ -1,15 +1,10 @@
 -- `all_fit` meets its contract: whether a figure is outside is whether one of the accounts from `k` on has such a figure, `k`
 -- the account at the loop's head, and the test decides `k` itself. Assumes nothing.
 use Prim.Native.Nat.{◌≤◌, ◌-◌}
-use native.Mathlib.Omega.{arith}
-use mathlib.Core.Path.{sym, ◌≡◌, refl, ◌∙◌}
-use borrow.Author.Rules.{rules}
+use mathlib.Core.Path.{◌≡◌}
 use Rattle.rules.specs.Range.{up_from, any}
 use Rattle.rules.specs.Card.{account_count, first_charge, charge_accounts}
 use Rattle.rules.specs.Tree.{is_figure_outside}
-use Rattle.rules.proofs.Laws.Tests.{not_holds, not_fails}
-use Rattle.rules.proofs.Laws.Ranges.{any_left_here, any_left_next, any_left_done}
-use Rattle.rules.proofs.Laws.Negated.{failed, held}
 use Rattle.report.proofs.cause.all_fit.Given as goal
 
 abbrev pub invariant-loop-k : goal.invariant-loop-k

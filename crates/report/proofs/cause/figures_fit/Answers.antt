@@ -1,15 +1,10 @@
 -- `figures_fit` meets its contract: whether a total is outside is whether one of those from `n` on is, `n` the action at the
 -- loop's head, and the test decides `n` itself. Assumes nothing.
-use Prim.Native.Nat.{◌≤◌, ◌-◌}
 use native.Mathlib.Nat.{add-sub_cancel}
 use native.Mathlib.Omega.{arith}
-use mathlib.Core.Path.{◌≡◌, sym, ◌∙◌}
-use mathlib.Core.Bool.{not, ◌&&◌}
-use borrow.Author.Rules.{rules}
-use Rattle.rules.specs.Range.{up_from, any}
-use Rattle.rules.specs.Amount.{is_amount}
-use Rattle.rules.specs.Table.{total_of, actions}
-use Rattle.rules.specs.Tree.{is_shown, is_figure_outside}
+use mathlib.Core.Path.{sym, ◌∙◌}
+use Rattle.rules.specs.Table.{actions}
+use Rattle.rules.specs.Tree.{is_figure_outside}
 use Rattle.rules.proofs.Laws.Ranges.{any_left_here, any_left_next, any_left_done}
 use Rattle.report.proofs.cause.figures_fit.Goals as goal
 

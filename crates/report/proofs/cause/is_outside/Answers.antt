@@ -1,6 +1,5 @@
 -- `is_outside` meets its contract: the way up is asked of those alone whose total is no amount. Assumes nothing.
 use mathlib.Core.Path.{sym, ap, ◌∙◌}
-use borrow.Author.Rules.{rules}
 use Rattle.rules.specs.Amount.{is_amount}
 use Rattle.rules.specs.Tree.{is_shown}
 use Rattle.rules.proofs.Laws.Tests.{and_true, and_false}

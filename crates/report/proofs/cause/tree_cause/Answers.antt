@@ -1,12 +1,10 @@
 -- `tree_cause` meets its contract: each exit gives the first of the causes that applies. Assumes nothing.
 use mathlib.Core.Path.{◌≡◌, sym, ◌∙◌}
 use mathlib.Core.Bool.{true, false}
-use borrow.Author.Rules.{rules}
 use Rattle.rules.specs.Range.{any}
 use Rattle.rules.specs.Card.{charge_accounts}
 use Rattle.rules.specs.Tree.{is_figure_outside}
 use Rattle.rules.proofs.Laws.Tests.{not_holds, not_fails}
-use Rattle.rules.proofs.Laws.Negated.{failed, held}
 use Rattle.causes.proofs.Grouped.{stores_refused, stores_passed, stores_accepted}
 use Rattle.report.proofs.Causes.{figure_causes, opening_wrong, opening_right}
 use Rattle.report.proofs.cause.tree_cause.Goals as goal

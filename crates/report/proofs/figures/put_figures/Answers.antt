@@ -2,15 +2,15 @@
 use native.Mathlib.Omega.{arith}
 use mathlib.Core.Path.{◌≡◌, refl, sym, ap, ◌∙◌}
 use mathlib.Core.List.{List, map, flat_map}
-use Prim.Native.Nat.{ℕ, ◌-◌}
+use Prim.Native.Nat.{ℕ}
 use lib.ListN.{length}
 use lib.Seq.{sets}
 use Rattle.rules.specs.Range.{up_from}
-use Rattle.rules.specs.Card.{account_count, charge_accounts}
+use Rattle.rules.specs.Card.{charge_accounts}
 use Rattle.rules.specs.Amount.{amount_word}
 use Rattle.rules.specs.Tree.{account_figures, figures_of}
 use Rattle.report.specs.Asked.{account_words, figure_words}
-use Rattle.report.proofs.Words.{PutSoFar, put_first, room_here, put_next, put_last, words_in_turn}
+use Rattle.report.proofs.Words.{put_first, room_here, put_next, put_last, words_in_turn}
 use Rattle.report.proofs.figures.put_figures.Goals as goal
 
 -- the words of n's figures for an account

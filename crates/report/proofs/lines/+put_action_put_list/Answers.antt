@@ -1,5 +1,5 @@
 -- `put_action` and `put_list` meet their contracts, by one proof for the two. Assumes nothing.
-use Prim.Native.Nat.{◌+◌, ◌-◌, ◌*◌}
+use Prim.Native.Nat.{◌+◌, ◌-◌}
 use native.Mathlib.Omega.{arith}
 use mathlib.Core.Path.{sym, ◌∙◌}
 use mathlib.Core.List.{[], ◌∷◌}
@@ -38,8 +38,8 @@ put_action-put_list-requires t c =
     let lines = lines_of_action args.table.now args.depth args.n args.levels (omega arith) in
     let under = lines_from (args.levels - 1) args.table.now (args.depth + 1) args.n 1 in
     let behind =
-        room_then (line_at_depth args.depth args.n ∷ []) under (rw lines at c.requires.has_line_room) _ (lined_length _ first) _
-        first.counted
+    room_then (line_at_depth args.depth args.n ∷ []) under (rw lines at c.requires.has_line_room) _ (lined_length _ first) _
+    first.counted
     in (
       omega arith,
       (

@@ -1,5 +1,4 @@
 -- `is_child` tests the parent, as the definition does. Assumes nothing.
-use borrow.Author.Rules.{rules}
 use Rattle.report.proofs.lines.is_child.Goals as goal
 
 pub returns : goal.returns

@@ -1,7 +1,6 @@
 -- `total` adds two words up. Assumes nothing.
 use native.Mathlib.Omega.{arith}
 use mathlib.Core.Path.{refl, ◌∙◌}
-use borrow.Author.Rules.{rules}
 use Rattle.amounts.proofs.Sums.{room_for_second, value_of_two}
 use Rattle.report.proofs.total.total.Goals as goal
 
