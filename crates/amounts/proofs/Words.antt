@@ -1,50 +1,49 @@
--- Words among bytes, byte by byte. Assumes nothing.
-use Prim.Native.Nat.{ℕ, suc, ◌+◌, ◌-◌, ◌*◌, ◌/◌, ◌%◌, ◌^◌, ◌≤◌, ◌<◌}
+-- Words among bytes: the library reads and writes them as the rules do. Assumes nothing.
+use Prim.Native.Nat.{ℕ, zero, suc, ◌+◌, ◌*◌, ◌/◌, ◌%◌, ◌^◌}
 use native.Mathlib.Omega.{arith}
-use native.Mathlib.Nat.{pow-suc, pow-le-pow_right}
-use mathlib.Core.Path.{◌≡◌, sym, ap, ◌∙◌}
-use mathlib.Core.List.{List}
-use lib.ListN.{length, drop, get_or, length-drop}
-use lib.Seq.{drop-cons, get_or-drop, slice, slice_empty, slice-cons}
+use native.Mathlib.Nat.{pow-suc, div-div-eq-div-mul}
+use mathlib.Core.Path.{◌≡◌, refl, ap, ◌∙◌}
+use mathlib.Core.List.{List, [], ◌∷◌}
+use lib.ListN.{length, drop, get_or, drop_of_length-le}
+use Rattle.std.specs.Int.{w64, from_le_bytes, to_le_bytes, byte_at}
+use Rattle.std.specs.Int as library
 use Rattle.rules.specs.Amount.{byte_values, low_first, bytes_low_first, amount_length}
-use Rattle.rules.proofs.Laws.Amounts.{bytes_low_first_length}
 
--- ---- a word that is read, high byte first
-
--- the number that the bytes of the word at a place are from the i-th on
-abbrev pub word_from : List ℕ → ℕ → ℕ → ℕ
-word_from bytes at i = low_first (slice i amount_length (drop at bytes))
-
-pub no_byte_left : (bytes : List ℕ) (at : ℕ) → word_from bytes at amount_length ≡ 0
+byte_first : (bytes : List ℕ) (i : ℕ) → low_first (drop i bytes) ≡ get_or bytes i 0 + byte_values * low_first (drop (suc i) bytes)
 unfolding low_first
-no_byte_left bytes at = ap low_first (slice_empty amount_length (drop at bytes))
+byte_first [] zero = refl
+byte_first [] (suc i) = refl
+byte_first (byte ∷ bytes) zero = refl
+byte_first (byte ∷ bytes) (suc i) = byte_first bytes i
 
-pub one_byte_more :
-    (bytes : List ℕ) (at i : ℕ) → at + amount_length ≤ length bytes → i < amount_length →
-    word_from bytes at i ≡ get_or bytes (at + i) 0 + byte_values * word_from bytes at (suc i)
+pub word_read : (bytes : List ℕ) → length bytes ≡ amount_length → from_le_bytes w64 bytes ≡ low_first bytes
 unfolding low_first
-one_byte_more bytes at i fits h =
-    ap low_first (slice-cons i amount_length (drop at bytes) 0 h (rw length-drop (omega arith)))
-    ∙ rw get_or-drop
+word_read bytes whole =
+    let none : low_first (drop amount_length bytes) ≡ 0 = ap low_first (drop_of_length-le bytes {i = amount_length} (omega arith)) in
+    omega (
+      arith,
+      none,
+      byte_first bytes 0,
+      byte_first bytes 1,
+      byte_first bytes 2,
+      byte_first bytes 3,
+      byte_first bytes 4,
+      byte_first bytes 5,
+      byte_first bytes 6,
+      byte_first bytes 7,
+    )
 
--- a word of so many bytes, and one byte more
-pub larger : (word byte n : ℕ) → word < byte_values ^ n → byte < byte_values → word * byte_values + byte < byte_values ^ suc n
-larger word byte n below h = omega (arith, pow-suc byte_values n)
+byte_left : (i x : ℕ) → byte_at i x ≡ x / byte_values ^ i % byte_values
+byte_left zero x = omega arith
+byte_left (suc i) x = refl
 
--- a word that has not all its bytes yet has room for one more
-pub room_for_byte : (word n : ℕ) → word < byte_values ^ n → n < amount_length → (word + 1) * byte_values ≤ 2 ^ 64
-room_for_byte word n below h =
-    omega (arith, pow-le-pow_right {n = byte_values} (omega arith) {i = n} {j = 7} (omega arith))
-
--- ---- a word that is put, low byte first
-
--- the i-th byte of a number is the lowest of what is left of it there
-pub next_byte :
-    (n x i rest : ℕ) → i < n → drop i (bytes_low_first n x) ≡ bytes_low_first (n - i) rest →
-    (get_or (bytes_low_first n x) i 0 ≡ rest % byte_values) ×
-    (drop (suc i) (bytes_low_first n x) ≡ bytes_low_first (n - suc i) (rest / byte_values))
+bytes_left : (n i x : ℕ) → library.bytes_low_first i n x ≡ bytes_low_first n (x / byte_values ^ i)
 unfolding bytes_low_first
-next_byte n x i rest h left =
-    let more : n - i ≡ suc (n - suc i) = omega arith in
-    let here = drop-cons (bytes_low_first n x) i 0 (rw bytes_low_first_length h) in
-    let same = sym here ∙ left ∙ ap (λ k. bytes_low_first k rest) more in (cc, cc)
+bytes_left zero i x = refl
+bytes_left (suc n) i x =
+    rw (byte_left i x, bytes_left n (suc i) x, div-div-eq-div-mul x (byte_values ^ i) byte_values, pow-suc byte_values i)
+
+pub word_written : (x : ℕ) → to_le_bytes w64 x ≡ bytes_low_first amount_length x
+word_written x =
+    let all : x / byte_values ^ 0 ≡ x = omega arith in
+    bytes_left amount_length 0 x ∙ rw all

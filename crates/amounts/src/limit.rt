@@ -8,8 +8,7 @@ use rules::amount::MOST_ADDED;
 pub fn is_addable(word: u64) -> bool
     ensures { result ≡ is_addable (amount_of word) }
 {
-    if word <= MOST_ADDED {
-        return true;
-    }
-    u64::MAX - word < MOST_ADDED
+    let from_zero = word <= MOST_ADDED;
+    let below_zero = u64::MAX - word < MOST_ADDED;
+    from_zero || below_zero
 }

@@ -14,6 +14,7 @@ pub struct Sum {
     pub negatives: u64,
 }
 
+#[tactic(auto, unfolding(crate::specs::Sum::sum_of))]
 pub fn of_word(word: u64) -> Sum
     ensures { result ≡ sum_of word }
 {
@@ -24,22 +25,16 @@ pub fn of_word(word: u64) -> Sum
     }
 }
 
+#[tactic(auto, unfolding(crate::specs::Sum::plus_word))]
 pub fn plus(sum: Sum, word: u64) -> Sum
     requires { HasRoom sum }
     ensures { result ≡ plus_word sum word }
 {
     let negatives = sum.negatives + word / SIGN;
-    let room = u64::MAX - sum.low;
-    if word > room {
-        return Sum {
-            low: word - room - 1,
-            carries: sum.carries + 1,
-            negatives,
-        };
-    }
+    let (low, carried) = sum.low.carrying_add(word, false);
     Sum {
-        low: sum.low + word,
-        carries: sum.carries,
+        low,
+        carries: sum.carries + u64::from(carried),
         negatives,
     }
 }
@@ -49,10 +44,8 @@ pub fn is_amount(sum: Sum) -> bool
     ensures { result ≡ is_amount (value_of sum) }
 {
     if sum.low < SIGN {
-        return sum.carries == sum.negatives;
+        sum.carries == sum.negatives
+    } else {
+        sum.carries < sum.negatives && sum.negatives - sum.carries == 1
     }
-    if sum.carries < sum.negatives {
-        return sum.negatives - sum.carries == 1;
-    }
-    false
 }

@@ -1,11 +1,11 @@
 -- The way up to the store, move by move, in any table: no row stands behind the last, so no parent either. Assumes nothing.
-use Prim.Native.Nat.{ℕ, zero, suc, ◌+◌, ◌-◌, ◌*◌, ◌<◌}
+use Prim.Native.Nat.{ℕ, suc, ◌+◌, ◌*◌, ◌<◌}
 use native.Mathlib.Omega.{arith}
 use mathlib.Core.Path.{◌≡◌, refl}
 use mathlib.Core.Logic.{◌≢◌}
-use mathlib.Core.Bool.{false}
 use mathlib.Core.List.{List}
 use lib.ListN.{length, get_or-eq_default}
+use lib.Dec.{eqb}
 use borrow.Author.Tests.{ne_eqb}
 use Rattle.rules.specs.Table.{width, table_length, most_actions, parent_field, word, parent_of}
 use Rattle.rules.specs.Walk.{climbs}
@@ -16,13 +16,10 @@ module _ (w : List ℕ) where
   parent_behind n long behind = get_or-eq_default w 0 {n = width * n + parent_field} (omega arith)
 
   -- a move is left, or none is
-  pub way_on :
-      (left at : ℕ) → left ≢ 0 → at ≢ 0 → climbs (parent_of w) left at ≡ climbs (parent_of w) (left - 1) (parent_of w at)
+  pub way_on : (left at : ℕ) → at ≢ 0 → climbs (parent_of w) (suc left) at ≡ climbs (parent_of w) left (parent_of w at)
   unfolding climbs
-  way_on zero at some action = absurd (some refl)
-  way_on (suc left) at some action =
-      let one_fewer : suc left - 1 ≡ left = omega arith in rw (one_fewer, ne_eqb at 0 action)
+  way_on left at action = rw (ne_eqb at 0 action)
 
-  pub way_ends : (at : ℕ) → at ≢ 0 → climbs (parent_of w) 0 at ≡ false
+  pub way_ends : (at : ℕ) → climbs (parent_of w) 0 at ≡ eqb at 0
   unfolding climbs
-  way_ends at action = ne_eqb at 0 action
+  way_ends at = refl

@@ -15,27 +15,17 @@ use stores::place::base_place;
 pub struct Seen {
     // how many moves up lead to the store
     pub moves: u64,
-    // the sum is an amount
-    pub fits: bool,
-    // its word, 0 where it is none
-    pub word: u64,
+    // the word of the sum, where it is an amount
+    pub sum: Option<u64>,
 }
 
 // What is seen after so many moves, if the sum is this.
 fn seen_from(moves: u64, sum: Sum) -> Seen
     ensures { result ≡ seen_from moves (value_of sum) }
 {
-    if is_amount(sum) {
-        return Seen {
-            moves,
-            fits: true,
-            word: sum.low,
-        };
-    }
     Seen {
         moves,
-        fits: false,
-        word: NO_SUM,
+        sum: is_amount(sum).then_some(sum.low),
     }
 }
 

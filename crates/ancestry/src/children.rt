@@ -9,21 +9,12 @@ fn is_live_child(table: &[u64], p: u64, m: u64) -> bool
     requires { HasRow table.now m }
     ensures { result ≡ is_live_child_of table.now p m }
 {
-    if parent(table, m) != p {
-        return false;
-    }
-    is_live(table, m)
+    parent(table, m) == p && is_live(table, m)
 }
 
 pub fn has_live_child(table: &[u64], p: u64) -> bool
     requires { Scannable table.now }
     ensures { result ≡ has_live_child table.now p }
 {
-    let last = highest(table);
-    for m in 1..last + 1 {
-        if is_live_child(table, p, m) {
-            return true;
-        }
-    }
-    false
+    (1..highest(table) + 1).any(|m| is_live_child(table, p, m))
 }

@@ -62,8 +62,5 @@ pub fn is_aborted_by(table: &[u64], a: u64, m: u64) -> bool
     requires given { IsGiven table.now m }
     ensures { result ≡ is_aborted_by table.now a m }
 {
-    if !is_live(table, m) {
-        return false;
-    }
-    is_at_or_below(table, a, m)
+    is_live(table, m) && is_at_or_below(table, a, m)
 }

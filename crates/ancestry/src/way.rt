@@ -24,13 +24,11 @@ pub fn reaches_store(table: &[u64], n: u64) -> bool
     ensures { result ≡ climbs (parent_of table.now) most_actions n }
 {
     let mut at = n;
-    let mut left = MOST_ACTIONS;
-    while at != STORE {
-        if left == 0 {
-            return false;
+    for _ in 0..MOST_ACTIONS {
+        if at == STORE {
+            return true;
         }
         at = parent_in(table, at);
-        left -= 1;
     }
-    true
+    at == STORE
 }

@@ -8,6 +8,7 @@ ghost use Rattle.rules.specs.Table.{highest, counter};
 ghost use Rattle.rules.specs.Ledger.{ledger_of};
 ghost use Rattle.rules.specs.Event.{event_of};
 ghost use Rattle.rules.specs.Cause.{cause_of};
+ghost use Rattle.rules.specs.Refusal.{refusal_of};
 ghost use Rattle.rules.specs.Step.{step};
 ghost use Rattle.rules.specs.Look.{look, looked_card};
 ghost use Rattle.rules.specs.Tree.{report_of, report};
@@ -16,13 +17,27 @@ ghost use Rattle.lists.specs.Listed.{listed_of, run_list};
 ghost use Rattle.dayfile.specs.Day.{day_of, run_day};
 ghost use Rattle.dayfile.specs.Tree.{day_tree_of, run_day_tree};
 ghost use Rattle.shortdays.specs.Call.{short_answer, short_list};
-ghost use Rattle.capi.specs.Given.{GivesWords, shown_in, short_kind, short_refusal};
+ghost use Rattle.capi.specs.Given.{GivesWords, shown_in, short_kind};
 
-use rules::cause::NONE;
 use rules::day::LISTING_LENGTH;
-use rules::report::REPORT_LENGTH;
+use rules::event::Event;
+use rules::refusal::Refusal;
+use rules::report::{NO_LINES, REPORT_LENGTH};
 use rules::store::CARD_LENGTH;
-use shortdays::day::{LENGTH, ShortDay, short_day};
+use shortdays::day::{LENGTH, short_day};
+
+// Stands for no refusal: causes are numbered from 1.
+const NONE: u64 = 0;
+
+// What C is given of a call's answer: the number of its refusal, none's where it isn't refused.
+fn number_of<T: Copy>(answer: Result<T, Refusal>) -> u64
+    ensures { result ≡ refusal_of answer }
+{
+    match answer {
+        Ok(_) => NONE,
+        Err(refusal) => u64::from(refusal),
+    }
+}
 
 // table::open
 #[unsafe(no_mangle)]
@@ -30,7 +45,7 @@ pub extern "C" fn mundzavch_open(table: &mut [u64], rule: u64) -> u64
     ensures cause { result ≡ open_cause table.old rule }
     ensures leaves { table.new ≡ open_table table.old rule }
 {
-    table::open(table, rule)
+    number_of(table::open(table, rule))
 }
 
 // table::highest
@@ -76,7 +91,13 @@ pub extern "C" fn mundzavch_event(
         (step (ledger_of table.old base.old shadow.old)
         (event_of code number account card.now)) }
 {
-    let answer = engine::event::event(table, base, shadow, code, number, account, card);
+    let event = Event {
+        code,
+        number,
+        account,
+        card,
+    };
+    let answer = engine::event::event(table, base, shadow, event);
     let words = lists::answer::words(answer);
     *first = words[1];
     *second = words[2];
@@ -99,7 +120,13 @@ pub extern "C" fn mundzavch_cause(
         ≡ cause_of table.now base.now shadow.now
         (event_of code number account card.now) }
 {
-    engine::event::cause(table, base, shadow, code, number, account, card)
+    let event = Event {
+        code,
+        number,
+        account,
+        card,
+    };
+    number_of(engine::event::cause(table, base, shadow, event))
 }
 
 // look::look, its part copied to the front of `card`, which a refused look leaves as it was; its moves in `moves`.
@@ -121,10 +148,10 @@ pub extern "C" fn mundzavch_look<'a>(
         ≡ shown_in card.old
         (looked_card table.now base.now shadow.now number account) }
 {
-    let mut cause = NONE;
-    let part = engine::look::look(table, base, shadow, number, account, &mut cause, moves);
-    card[..part.len()].copy_from_slice(part);
-    cause
+    let looked = engine::look::look(table, base, shadow, number, account);
+    *moves = looked.moves;
+    card[..looked.part.len()].copy_from_slice(looked.part);
+    number_of(looked.cause)
 }
 
 // run::run
@@ -140,7 +167,7 @@ pub extern "C" fn mundzavch_run(
         ≡ run_list (ledger_of table.old base.old shadow.old)
         events.now answers.old }
 {
-    lists::run::run(table, base, shadow, events, answers)
+    number_of(lists::run::run(table, base, shadow, events, answers))
 }
 
 // day::day
@@ -173,7 +200,16 @@ pub extern "C" fn mundzavch_tree(
         ≡ report table.now base.now shadow.now opening.now
         out.old }
 {
-    report::report::report(table, base, shadow, opening, out, lines)
+    match report::report::report(table, base, shadow, opening, out) {
+        Ok(put) => {
+            *lines = put as u64;
+            NONE
+        }
+        Err(refusal) => {
+            *lines = NO_LINES;
+            u64::from(refusal)
+        }
+    }
 }
 
 // tree::tree
@@ -211,17 +247,14 @@ pub extern "C" fn mundzavch_short_day(
     refusal: &mut u64,
 ) -> u64
     ensures kind { result ≡ short_kind (short_answer k rule place) }
-    ensures refusal { refusal.new ≡ short_refusal (short_answer k rule place) }
+    ensures refusal { refusal.new ≡ refusal_of (short_answer k rule place) }
     ensures list { list.new ≡ short_list k rule place list.old }
 {
     let answer = short_day(k, rule, place, list);
-    *refusal = NONE;
+    *refusal = number_of(answer);
     match answer {
-        ShortDay::Given => SHORT_GIVEN,
-        ShortDay::Nothing => SHORT_NONE,
-        ShortDay::Refused(cause) => {
-            *refusal = cause;
-            SHORT_REFUSED
-        }
+        Ok(true) => SHORT_GIVEN,
+        Ok(false) => SHORT_NONE,
+        Err(_) => SHORT_REFUSED,
     }
 }

@@ -17,6 +17,7 @@ use Rattle.rules.specs.Run.{Ran, run}
 use Rattle.rules.proofs.Sound.Soundness.{tested}
 use Rattle.rules.proofs.Demand.Proper.{Proper, new_proper, step_keeps_proper}
 use Rattle.cases.specs.Case.{opening_under}
+use Rattle.rules.specs.Refusal.{refusal_numbered}
 
 -- ---- without the first two causes
 
@@ -26,7 +27,7 @@ later_cause s e = first_cause (early_causes s.table e ++ late_causes s.table s.b
 unfoldable pub proper_step : Ledger → Event → Outcome
 proper_step s e =
     let cause = later_cause s e in
-    cond (eqb cause 0) (act s e) (record { answer = Refused cause; after = s })
+    cond (eqb cause 0) (act s e) (record { answer = Refused (refusal_numbered cause); after = s })
 
 unfoldable pub proper_leavers : Ledger → Event → List ℕ
 proper_leavers s e =

@@ -5,6 +5,7 @@ use Rattle.rules.specs.declared.Answer.TheVariants.{Started, Read, ReadSum, Writ
 use Rattle.rules.specs.Table.{backward_rule, forward_rule}
 use Rattle.rules.specs.Event.{Event, event_of, start_under, read_by, write_by, commit_of, abort_of, enter_of, judge_of}
 use Rattle.cases.specs.Case.{filled_with, asking_under, giving, adding, Case, case}
+use Rattle.rules.specs.declared.refusal.Refusal.TheVariants.{ChildLive, Code, Misfit, Number}
 
 -- two topactions, and one action below the second, which has read what the first writes
 abbrev read_below_sibling : List Event
@@ -45,8 +46,8 @@ cases_to51 =
     (start_under 0 ∷ start_under 1 ∷ read_by 2 6 ∷ start_under 0 ∷ write_by 3 6 (filled_with 1) ∷ commit_of 3 ∷ start_under 1 ∷ read_by 4 6
     ∷ commit_of 2 ∷ commit_of 4 ∷ commit_of 1 ∷ []) [] [])
     (giving
-    (Started 1 ∷ Started 2 ∷ Read 0 2 ∷ Started 3 ∷ Written ∷ Failed 2 6 ∷ Started 3 ∷ Refused 4 ∷ Committed 0 ∷ Refused 4
-    ∷ Refused 9 ∷ []) 3 0 0 [] [])
+    (Started 1 ∷ Started 2 ∷ Read 0 2 ∷ Started 3 ∷ Written ∷ Failed 2 6 ∷ Started 3 ∷ Refused Number ∷ Committed 0 ∷ Refused Number
+    ∷ Refused ChildLive ∷ []) 3 0 0 [] [])
     -- 51: of 13
     ∷ case
     (asking_under forward_rule
@@ -122,5 +123,5 @@ cases_to62 =
     ∷ case
     (asking_under forward_rule
     (start_under 0 ∷ enter_of 1 ∷ judge_of 1 ∷ enter_of 9 ∷ judge_of 0 ∷ event_of 9 1 0 [] ∷ []) [] [])
-    (giving (Started 1 ∷ Refused 21 ∷ Refused 21 ∷ Refused 21 ∷ Refused 21 ∷ Refused 3 ∷ []) 1 0 0 [] [])
+    (giving (Started 1 ∷ Refused Misfit ∷ Refused Misfit ∷ Refused Misfit ∷ Refused Misfit ∷ Refused Code ∷ []) 1 0 0 [] [])
     ∷ []

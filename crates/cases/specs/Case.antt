@@ -13,6 +13,7 @@ use Rattle.rules.specs.Ledger.{Ledger}
 use Rattle.rules.specs.Run.{Ran, run}
 use Rattle.rules.specs.Serial.Told.{Told, told_all}
 use Rattle.rules.specs.Serial.Demand.{new_over}
+use Rattle.rules.specs.declared.refusal.Refusal.TheVariants.{Account, Amount, ChildLive, Code, Judge, Kind, NotLive, Queue, Queued}
 
 -- a new table under rule r over stores of zeros
 abbrev pub opening_under : ℕ → Ledger
@@ -157,7 +158,7 @@ cases_to14 =
     -- 7
     ∷ case
     (asking (start_under 0 ∷ start_under 1 ∷ read_by 1 0 ∷ commit_of 1 ∷ []) [] [])
-    (giving (Started 1 ∷ Started 2 ∷ Refused 9 ∷ Refused 9 ∷ []) 2 0 0 [] [])
+    (giving (Started 1 ∷ Started 2 ∷ Refused ChildLive ∷ Refused ChildLive ∷ []) 2 0 0 [] [])
     -- 8 and 8b
     ∷ case
     (asking
@@ -180,7 +181,7 @@ cases_to14 =
     -- 10
     ∷ case
     (asking (start_under 0 ∷ start_under 1 ∷ start_under 2 ∷ abort_of 1 ∷ commit_of 2 ∷ []) [] [])
-    (giving (Started 1 ∷ Started 2 ∷ Started 3 ∷ Aborted 3 0 ∷ Refused 5 ∷ []) 3 0 0 [] [])
+    (giving (Started 1 ∷ Started 2 ∷ Started 3 ∷ Aborted 3 0 ∷ Refused NotLive ∷ []) 3 0 0 [] [])
     -- 13
     ∷ case
     (asking
@@ -239,9 +240,9 @@ cases_to25 =
     ∷ write_by 2 24 (filled_with 0) ∷ adding 2 24 1000001 ∷ taking 2 24 1000001 ∷ adding 2 24 1000000 ∷ taking 2 31 1000000
     ∷ event_of 9 2 24 (filled_with 0) ∷ commit_of 1 ∷ []) [] [])
     (giving
-    (Started 1 ∷ Started 2 ∷ Refused 13 ∷ Refused 14 ∷ Refused 9 ∷ Refused 7 ∷ Refused 13
-    ∷ Refused 13 ∷ Refused 14 ∷ Refused 14 ∷ Added ∷ Added
-    ∷ Refused 3 ∷ Refused 9 ∷ []) 2 0 0 [] [])
+    (Started 1 ∷ Started 2 ∷ Refused Kind ∷ Refused Amount ∷ Refused ChildLive ∷ Refused Account ∷ Refused Kind
+    ∷ Refused Kind ∷ Refused Amount ∷ Refused Amount ∷ Added ∷ Added
+    ∷ Refused Code ∷ Refused ChildLive ∷ []) 2 0 0 [] [])
     -- 20
     ∷ case
     (asking
@@ -327,8 +328,8 @@ cases_to30 =
     (start_under 0 ∷ start_under 0 ∷ enter_of 1 ∷ read_by 1 0 ∷ start_under 1 ∷ commit_of 1 ∷ commit_of 2 ∷ judge_of 2 ∷ judge_of 1
     ∷ judge_of 1 ∷ commit_of 2 ∷ []) [] [])
     (giving
-    (Started 1 ∷ Started 2 ∷ Entered ∷ Refused 16 ∷ Refused 16 ∷ Refused 16 ∷ Refused 18 ∷ Refused 17 ∷ Ready 1
-    ∷ Refused 5 ∷ Committed 0 ∷ []) 2 0 0 [] [])
+    (Started 1 ∷ Started 2 ∷ Entered ∷ Refused Queued ∷ Refused Queued ∷ Refused Queued ∷ Refused Queue ∷ Refused Judge ∷ Ready 1
+    ∷ Refused NotLive ∷ Committed 0 ∷ []) 2 0 0 [] [])
     ∷ []
 
 -- the two kinds of action side by side
@@ -379,7 +380,7 @@ cases_to37 =
     -- 36
     ∷ case
     (asking (start_under 0 ∷ start_under 0 ∷ start_under 2 ∷ enter_of 1 ∷ commit_of 3 ∷ commit_of 2 ∷ []) [] [])
-    (giving (Started 1 ∷ Started 2 ∷ Started 3 ∷ Entered ∷ Committed 0 ∷ Refused 18 ∷ []) 3 0 0 [] [])
+    (giving (Started 1 ∷ Started 2 ∷ Started 3 ∷ Entered ∷ Committed 0 ∷ Refused Queue ∷ []) 3 0 0 [] [])
     -- 37
     ∷ case
     (asking

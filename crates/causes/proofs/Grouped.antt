@@ -1,18 +1,26 @@
 -- The causes that the engine asks together are those of the rules that are left where the others don't apply. Assumes nothing.
 use Prim.Native.Nat.{ℕ, ◌≤◌, ◌<◌}
 use native.Mathlib.Omega.{arith}
-use mathlib.Core.Path.{◌≡◌, refl, sym, ◌∙◌}
+use mathlib.Core.Path.{◌≡◌, refl, sym, ap, ◌∙◌}
 use mathlib.Core.Logic.{⊎_elim, ◌≢◌}
 use mathlib.Core.Bool.{Bool, true, false, not, cond, ◌&&◌, and-false, or-false}
 use mathlib.Core.List.{List, [], ◌∷◌, ◌++◌}
-use borrow.Author.Tests.{le-leb, lt-leb, le-ltb, eq-eqb, ne_eqb, not-false, eqb-true, eqb-false, ltb-true}
+use borrow.Author.Tests.{lt-leb, le-ltb, eq-eqb, ne_eqb, not-false, ltb-true}
 use lib.Dec.{eqb, ltb}
 use lib.ListN.{length, drop}
+use Rattle.std.specs.Prelude.{Result, Ok, Err, IsErrAnd}
 use Rattle.rules.specs.Card.{account_count, base_length, shadow_length, StoresFit}
 use Rattle.rules.specs.Table.{highest, is_live}
 use Rattle.rules.specs.Sound.{sound, Sound}
-use Rattle.rules.specs.Event.{Event, event_of, start_code, read_code, write_code, commit_code, abort_code, add_code, enter_code, judge_code}
-use Rattle.rules.specs.Cause.{Cause, first_cause, is_store_length_wrong, queue_cause, is_overtaking, sum_cause, is_sum_outside, store_causes, early_causes, late_causes, causes_of, cause_of, later_cause}
+use Rattle.rules.specs.Event.{Event, event_of, start_code, write_code, add_code}
+use Rattle.rules.specs.declared.event.Code.{Code}
+use Rattle.rules.specs.declared.event.Code.TheVariants.{Start, Read, Write, Commit, Abort, Add, Enter, Judge}
+use Rattle.rules.specs.Code.{code_number}
+use Rattle.rules.specs.Cause.{Cause, first_cause, is_store_length_wrong, sum_cause, is_sum_outside, store_causes, early_causes, late_causes, causes_of, cause_of, later_cause}
+use Rattle.rules.specs.declared.refusal.Refusal.{Refusal}
+use Rattle.rules.specs.Refusal.{refusal_number, refusal_of}
+use Rattle.rules.proofs.Laws.Refusals.{never_none}
+use Rattle.rules.proofs.Laws.Codes.{code_known, code_one}
 use Rattle.rules.proofs.Laws.Tests.{and_left, and_right, test, cond_holds}
 use Rattle.rules.proofs.Laws.Allowed.{not_given, stores_fit}
 use Rattle.rules.proofs.Sound.Soundness.{facts, tested}
@@ -41,6 +49,21 @@ front_passed (c ∷ cs) ds numbered none =
     absurd (omega (arith, own, ltb-true 0 c.number (and_left (ltb 0 c.number) _ numbered))))
     (λ p. rw p (front_passed cs ds (and_right (ltb 0 c.number) _ numbered) (rw p at none)))
     (test c.applies)
+
+-- ---- a refusal that `?` passes up
+
+pub passed_up :
+    {A : Type 0} (answer : Result A Refusal) (refusal : Refusal) → IsErrAnd answer (λ e. e ≡ refusal) →
+    refusal_of answer ≡ refusal_number refusal
+passed_up (Ok x) refusal passed = absurd passed
+passed_up (Err e) refusal passed = ap refusal_number passed
+
+-- it is that of the causes asked first, whatever stands behind them
+front_refused :
+    {A : Type 0} (cs ds : List Cause) (answer : Result A Refusal) (refusal : Refusal) → IsErrAnd answer (λ e. e ≡ refusal) →
+    refusal_number refusal ≡ first_cause cs → refusal_of answer ≡ first_cause (cs ++ ds)
+front_refused cs ds answer refusal passed asked =
+    passed_up answer refusal passed ∙ asked ∙ sym (front_given cs ds (λ none. never_none refusal (asked ∙ none)))
 
 -- ---- the causes of every call, 1 and 2
 
@@ -108,53 +131,45 @@ module _ (w base shadow : List ℕ) (e : Event) where
 
 -- ---- the causes of an event, by its kind
 
-module _ (w : List ℕ) (e : Event) (known : e.number ≤ highest w) where
-  pub causes_of_start : e.code ≡ start_code → first_cause (early_causes w e) ≡ first_cause (start_causes w e.number)
+module _ (w : List ℕ) (e : Event) (code : Code) (is : code_number code ≡ e.code) (known : e.number ≤ highest w) where
+  pub causes_of_start : code ≡ Start → first_cause (early_causes w e) ≡ first_cause (start_causes w e.number)
   unfolding early_causes start_causes
-  causes_of_start is = rw (is, le-ltb (highest w) e.number known, and-false (eqb e.number 0))
+  causes_of_start starts =
+      let one : e.code ≡ start_code = sym is ∙ ap code_number starts in
+      rw (one, le-ltb (highest w) e.number known, and-false (eqb e.number 0))
 
--- what holds of the code of each event but a start holds of any of them
-by_code :
-    (P : ℕ → Type 0) (code : ℕ) → (read_code ≤ code) × (code ≤ judge_code) →
-    P read_code → P write_code → P commit_code → P abort_code → P add_code → P enter_code → P judge_code → P code
-by_code P code (least, most) reads writes commits aborts adds enters judges =
-    here_or_above read_code least reads
-    (λ above. here_or_above write_code above writes
-    (λ above. here_or_above commit_code above commits
-    (λ above. here_or_above abort_code above aborts
-    (λ above. here_or_above add_code above adds
-    (λ above. here_or_above enter_code above enters
-    (λ above. let is : code ≡ judge_code = omega arith in rw is judges))))))
-  where
-    here_or_above : (k : ℕ) → k ≤ code → P k → (k < code → P code) → P code
-    here_or_above k least here above =
-        ⊎_elim
-        (λ is. rw (eqb-true code k is) here)
-        (λ is_not. above (let ne : code ≢ k = eqb-false code k is_not in omega arith))
-        (test (eqb code k))
-
-module _ (w : List ℕ) (e : Event) (known : e.number ≤ highest w) where
   -- with another code, the causes from 7 on are those of its kind
-  abbrev ByKind : ℕ → Type 0
-  ByKind code =
-      let f = event_of code e.number e.account e.card in
+  abbrev ByKind : Code → Type 0
+  ByKind c =
+      let f = event_of (code_number c) e.number e.account e.card in
       first_cause (drop 5 (early_causes w f)) ≡ first_cause (kind_causes w f)
 
-  pub causes_of_kind :
-      (start_code ≤ e.code) × (e.code ≤ judge_code) → is_misfit w e.code ≡ false → e.code ≢ start_code → e.number ≢ 0 → is_live w e.number ≡ true →
-      first_cause (early_causes w e) ≡ first_cause (kind_causes w e)
+  by_kind : (c : Code) → (c ≡ Start → ⊥) → ByKind c
   unfolding early_causes kind_causes account_causes card_causes write_causes add_causes busy_causes time_causes enter_causes commit_causes judge_causes
-  causes_of_kind code fits other named alive =
+  by_kind Start other = absurd (other refl)
+  by_kind Read other = refl
+  by_kind Write other = refl
+  by_kind Commit other = refl
+  by_kind Abort other = refl
+  by_kind Add other = rw or-false
+  by_kind Enter other = refl
+  by_kind Judge other = refl
+
+  pub causes_of_kind :
+      (code ≡ Start → ⊥) → is_misfit w (code_number code) ≡ false → e.number ≢ 0 → is_live w e.number ≡ true →
+      first_cause (early_causes w e) ≡ first_cause (kind_causes w e)
+  unfolding early_causes
+  causes_of_kind other fits named alive =
       rw (
-        le-leb start_code e.code code.0,
-        le-leb e.code judge_code code.1,
+        ← is,
+        code_known code,
         fits,
         le-ltb (highest w) e.number known,
-        ne_eqb e.code start_code other,
+        ne_eqb (code_number code) start_code (λ one. other (code_one code Start one)),
         ne_eqb e.number 0 named,
         alive,
       )
-      (by_code ByKind e.code (omega arith) refl refl refl refl (rw or-false) refl refl)
+      (by_kind code other)
 
 card_causes_numbered : (code account : ℕ) (card : List ℕ) → are_numbered (card_causes code account card) ≡ true
 unfolding card_causes write_causes add_causes
@@ -164,49 +179,30 @@ card_causes_numbered code account card =
     (λ _. cond_holds (λ cs. are_numbered cs ≡ true) (eqb code add_code) (λ _. refl) (λ _. refl))
 
 -- where the account is known the causes of the card are asked first, and then those of a busy action
-module _ (w : List ℕ) (e : Event) (account : e.account < account_count) where
-  abbrev of_card : List Cause
-  of_card = card_causes e.code e.account e.card
+pub card_refused :
+    {A : Type 0} (w : List ℕ) (e : Event) (answer : Result A Refusal) (refusal : Refusal) → e.account < account_count →
+    IsErrAnd answer (λ e. e ≡ refusal) → refusal_number refusal ≡ first_cause (card_causes e.code e.account e.card) →
+    refusal_of answer ≡ first_cause (account_causes w e)
+unfolding account_causes
+card_refused w e answer refusal known passed asked =
+    rw (lt-leb account_count e.account known) (front_refused (card_causes e.code e.account e.card) (busy_causes w e.number) answer refusal passed asked)
 
-  abbrev of_busy : List Cause
-  of_busy = busy_causes w e.number
-
-  account_is_known : first_cause (account_causes w e) ≡ first_cause (of_card ++ of_busy)
-  unfolding account_causes
-  account_is_known = rw (lt-leb account_count e.account account)
-
-  pub card_refused : first_cause of_card ≢ 0 → first_cause (account_causes w e) ≡ first_cause of_card
-  card_refused given = account_is_known ∙ front_given of_card of_busy given
-
-  pub card_passed : first_cause of_card ≡ 0 → first_cause (account_causes w e) ≡ first_cause of_busy
-  card_passed none =
-      account_is_known ∙ front_passed of_card of_busy (card_causes_numbered e.code e.account e.card) none
+pub card_passed :
+    (w : List ℕ) (e : Event) → e.account < account_count → 0 ≡ first_cause (card_causes e.code e.account e.card) →
+    first_cause (account_causes w e) ≡ first_cause (busy_causes w e.number)
+unfolding account_causes
+card_passed w e known none =
+    rw (lt-leb account_count e.account known)
+    (front_passed (card_causes e.code e.account e.card) (busy_causes w e.number) (card_causes_numbered e.code e.account e.card) (sym none))
 
 -- of an enter and of a commit those of a busy action are asked first
-module _ (w : List ℕ) (n : ℕ) where
-  busy_given : (cs : List Cause) → first_cause (busy_causes w n) ≢ 0 → first_cause (busy_causes w n ++ cs) ≡ first_cause (busy_causes w n)
-  busy_given cs given = front_given (busy_causes w n) cs given
+pub busy_refused :
+    {A : Type 0} (w : List ℕ) (n : ℕ) (cs : List Cause) (answer : Result A Refusal) (refusal : Refusal) →
+    IsErrAnd answer (λ e. e ≡ refusal) → refusal_number refusal ≡ first_cause (busy_causes w n) →
+    refusal_of answer ≡ first_cause (busy_causes w n ++ cs)
+busy_refused w n cs answer refusal passed asked = front_refused (busy_causes w n) cs answer refusal passed asked
 
-  busy_passed : (cs : List Cause) → first_cause (busy_causes w n) ≡ 0 → first_cause (busy_causes w n ++ cs) ≡ first_cause cs
-  unfolding busy_causes
-  busy_passed cs none = front_passed (busy_causes w n) cs refl none
-
-  pub enter_refused : first_cause (busy_causes w n) ≢ 0 → first_cause (enter_causes w n) ≡ first_cause (busy_causes w n)
-  unfolding enter_causes
-  enter_refused = busy_given (time_causes w n)
-
-  pub enter_passed : first_cause (busy_causes w n) ≡ 0 → first_cause (enter_causes w n) ≡ first_cause (time_causes w n)
-  unfolding enter_causes
-  enter_passed = busy_passed (time_causes w n)
-
-  -- .. and of a commit then that of its queue
-  abbrev of_queue : List Cause
-  of_queue = record { number = queue_cause; applies = is_overtaking w true n } ∷ time_causes w n
-
-  pub commit_refused : first_cause (busy_causes w n) ≢ 0 → first_cause (commit_causes w n) ≡ first_cause (busy_causes w n)
-  unfolding commit_causes
-  commit_refused = busy_given of_queue
-
-  pub commit_passed : first_cause (busy_causes w n) ≡ 0 → first_cause (commit_causes w n) ≡ first_cause of_queue
-  unfolding commit_causes
-  commit_passed = busy_passed of_queue
+pub busy_passed :
+    (w : List ℕ) (n : ℕ) (cs : List Cause) → 0 ≡ first_cause (busy_causes w n) → first_cause (busy_causes w n ++ cs) ≡ first_cause cs
+unfolding busy_causes
+busy_passed w n cs none = front_passed (busy_causes w n) cs refl (sym none)

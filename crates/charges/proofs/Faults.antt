@@ -1,6 +1,10 @@
 -- The fault of a list: that of its first bad charge, and what holds of a list that has none. Assumes nothing.
-use Rattle.std.proofs.Common.{◌≡◌, ℕ, zero, suc, ◌+◌, ◌-◌, ◌%◌, ◌<◌, ◌≤◌, Bool, true, false, cond, not, eqb, ltb, List, length, refl, add-zero, zero-add, arith, ltb-false, ne_eqb, eqb-true}
+use Rattle.std.proofs.Common.{◌≡◌, ℕ, zero, suc, ◌+◌, ◌-◌, ◌%◌, ◌<◌, ◌≤◌, Bool, true, false, cond, not, eqb, ltb, List, length, refl, ap, add-zero, zero-add, arith, ltb-false, ne_eqb, eqb-true}
 use borrow.Author.Tests.{eqb-false}
+use Rattle.std.specs.Prelude.{Result, Ok, Err, IsErrAnd}
+use Rattle.rules.specs.declared.refusal.Refusal.{Refusal}
+use Rattle.rules.specs.Refusal.{refusal_number, refusal_of}
+use Rattle.rules.proofs.Laws.Refusals.{never_none}
 use Rattle.rules.specs.Amount.{is_addable}
 use Rattle.rules.proofs.Laws.Tests.{not_fails}
 use Rattle.rules.proofs.Laws.Allowed.{not_given}
@@ -9,11 +13,15 @@ use Rattle.charges.specs.List.{charge_length, most_charges, list_length, charges
 -- ---- of n charges those from the ith on
 
 module _ (list : List ℕ) (i n : ℕ) where
-  pub bad_here : i < n → (charge_fault list i ≡ 0 → ⊥) → charges_fault list i (n - i) ≡ charge_fault list i
+  -- a bad charge's fault, passed up, is that of all
+  pub bad_here :
+      {A : Type 0} (answer : Result A Refusal) (fault : Refusal) → i < n → IsErrAnd answer (λ e. e ≡ fault) →
+      refusal_number fault ≡ charge_fault list i → refusal_of answer ≡ charges_fault list i (n - i)
   unfolding charges_fault
-  bad_here more bad =
+  bad_here (Ok x) fault more passed asked = absurd passed
+  bad_here (Err e) fault more passed asked =
       let left : n - i ≡ suc (n - suc i) = omega arith in
-      rw (left, ne_eqb (charge_fault list i) 0 bad)
+      rw (left, ← asked, ne_eqb (refusal_number fault) 0 (never_none fault)) (ap refusal_number passed)
 
   pub good_here : i < n → charge_fault list i ≡ 0 → charges_fault list i (n - i) ≡ charges_fault list (suc i) (n - suc i)
   unfolding charges_fault

@@ -1,5 +1,5 @@
 -- RULES 14.4 and 14.5: the text printed of a list. Assumes nothing.
-use Rattle.std.specs.Prelude.{◌≡◌, ℕ, zero, suc, ◌+◌, cond, List, [], ◌∷◌, ◌++◌, length, ◌==◌, to_bits}
+use Rattle.std.specs.Prelude.{ℕ, zero, suc, ◌+◌, cond, List, [], ◌∷◌, ◌++◌, ◌==◌, to_bits}
 use Rattle.std.specs.Float.{binary64}
 use Rattle.rules.specs.Card.{first_charge, charge_count}
 use Rattle.text.specs.Text.{space, line_feed, decimal, signed, hexadecimal, refused_line}
@@ -30,6 +30,3 @@ column_text list = cond (list_fault list == 0) (account_lines list charge_count)
 -- RULES 14.5: the bytes of the buffer
 abbrev pub column_length : ℕ
 column_length = 256
-
-abbrev pub IsColumnBuffer : List ℕ → Type 0
-IsColumnBuffer buffer = length buffer ≡ column_length

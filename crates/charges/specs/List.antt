@@ -1,5 +1,5 @@
 -- RULES 14.1 and 14.2: a list of charges, and what may be wrong with it. Assumes nothing.
-use Rattle.std.specs.Prelude.{◌≡◌, ℕ, zero, suc, ◌+◌, ◌*◌, ◌/◌, ◌%◌, ◌≤◌, Bool, cond, not, ◌&&◌, List, [], ◌∷◌, length, ℤ, ◌==◌, nat_lt, slice_index}
+use Rattle.std.specs.Prelude.{◌≡◌, ℕ, zero, suc, ◌+◌, ◌*◌, ◌/◌, ◌%◌, Bool, cond, not, ◌&&◌, List, [], ◌∷◌, length, ℤ, ◌==◌, nat_lt, slice_index}
 use Rattle.rules.specs.Card.{account_count, is_charge}
 use Rattle.rules.specs.Amount.{amount_of, is_addable}
 use Rattle.rules.specs.Cause.{first_cause, length_cause, count_cause, kind_cause, amount_cause}
@@ -34,10 +34,6 @@ word_charged list i = word_at list (charge_place i + 1)
 
 abbrev pub cents_charged : List ℕ → ℕ → ℤ
 cents_charged list i = amount_of (word_charged list i)
-
--- the first n charges are there, with all their bytes
-pub record HasCharges (list : List ℕ) (n : ℕ) : Type 0 where
-  pub inside : charge_place n ≤ length list
 
 -- ---- RULES 14.2: the faults. They have the numbers of a day file's and of an event's
 

@@ -1,17 +1,15 @@
 // The text printed of a list, put into a buffer.
-ghost use Rattle.std.specs.Prelude.{◌≡◌, ◌+◌, ◌≤◌, length};
+ghost use Rattle.std.specs.Prelude.{◌≡◌, length};
 ghost use Rattle.rules.specs.Card.{charge_count};
-ghost use Rattle.text.specs.Put.{put_at};
+ghost use Rattle.text.specs.Put.{put_at, HasRoom, Fits, Writes};
 ghost use Rattle.charges.specs.List.{IsFaultless};
 ghost use Rattle.charges.specs.Running.{IsNumber};
-ghost use Rattle.charges.specs.Column.{cents_text, old_text, account_line, account_lines, column_text, IsColumnBuffer};
+ghost use Rattle.charges.specs.Column.{cents_text, old_text, account_line, account_lines, column_text, column_length};
 
-use crate::cents::word_of;
 use crate::list::list_fault;
 use crate::running::{Running, running_of};
-use rules::cause;
 use rules::store::{ACCOUNTS, FIRST_CHARGE};
-use text::{put_byte, put_hexadecimal, put_number, put_refused, put_signed};
+use text::Text;
 
 // The longest line: 2 digits, a sign and 10 digits, 16 digits, 2 spaces and a line feed.
 const LINE_LENGTH: usize = 32;
@@ -22,51 +20,56 @@ const LINES: usize = (ACCOUNTS - FIRST_CHARGE) as usize;
 pub const COLUMN_LENGTH: usize = LINES * LINE_LENGTH;
 
 // A space and the record's cents.
-fn put_cents(out: &mut [u8], at: usize, running: Running) -> usize
-    requires { at + length (cents_text running) ≤ length out.old }
-    ensures next { result ≡ at + length (cents_text running) }
-    ensures leaves { out.new ≡ put_at out.old at (cents_text running) }
+#[tactic(auto, unfolding(crate::specs::Column::cents_text))]
+fn put_cents(text: &mut Text, running: Running)
+    requires { Fits text.old (cents_text running) }
+    ensures { Writes text.old text.new (cents_text running) }
 {
-    let next = put_byte(out, at, b' ');
-    put_signed(out, next, word_of(running.cents))
+    text.put_byte(b' ');
+    text.put_signed(running.cents.cast_unsigned());
 }
 
 // A space and the bits of the record's old total.
-fn put_old(out: &mut [u8], at: usize, running: Running) -> usize
+#[tactic(auto, unfolding(crate::specs::Column::old_text))]
+fn put_old(text: &mut Text, running: Running)
     requires number { IsNumber running }
-    requires running_in_bounds { at + length (old_text running) ≤ length out.old }
-    ensures next { result ≡ at + length (old_text running) }
-    ensures leaves { out.new ≡ put_at out.old at (old_text running) }
+    requires fits { Fits text.old (old_text running) }
+    ensures { Writes text.old text.new (old_text running) }
 {
-    let next = put_byte(out, at, b' ');
-    put_hexadecimal(out, next, f64::to_bits(running.old))
+    text.put_byte(b' ');
+    text.put_hexadecimal(f64::to_bits(running.old));
 }
 
-fn put_line(out: &mut [u8], at: usize, account: u64, running: Running) -> usize
+#[tactic(auto, using(crate::proofs::Lines::length_of_line))]
+fn put_line(text: &mut Text, account: u64, running: Running)
     requires number { IsNumber running }
-    requires running_in_bounds { at + length (account_line account running) ≤ length out.old }
-    ensures next { result ≡ at + length (account_line account running) }
-    ensures leaves { out.new ≡ put_at out.old at (account_line account running) }
+    requires fits { Fits text.old (account_line account running) }
+    ensures { Writes text.old text.new (account_line account running) }
 {
-    let numbered = put_number(out, at, account);
-    let summed = put_cents(out, numbered, running);
-    let shown = put_old(out, summed, running);
-    put_byte(out, shown, b'\n')
+    text.put_number(account);
+    put_cents(text, running);
+    put_old(text, running);
+    text.put_byte(b'\n');
 }
 
-fn put_lines(out: &mut [u8], list: &[u8]) -> usize
+fn put_lines(text: &mut Text, list: &[u8])
     requires faultless { IsFaultless list.now }
-    requires column_buffer { IsColumnBuffer out.old }
-    ensures next { result ≡ length (account_lines list.now charge_count) }
-    ensures leaves { out.new
-        ≡ put_at out.old 0 (account_lines list.now charge_count) }
+    requires room { HasRoom text.old column_length }
+    ensures { Writes text.old text.new (account_lines list.now charge_count) }
 {
-    let mut at = 0;
-    for i in 0..LINES {
-        let account = FIRST_CHARGE + i as u64;
-        at = put_line(out, at, account, running_of(list, account));
+    for account in FIRST_CHARGE..ACCOUNTS {
+        put_line(text, account, running_of(list, account));
     }
-    at
+}
+
+fn put_column(text: &mut Text, list: &[u8])
+    requires { HasRoom text.old column_length }
+    ensures { Writes text.old text.new (column_text list.now) }
+{
+    match list_fault(list) {
+        Ok(()) => put_lines(text, list),
+        Err(fault) => text.put_refused(u64::from(fault)),
+    }
 }
 
 // Back comes the text's length; the text stands at the front of its buffer.
@@ -74,9 +77,7 @@ pub fn column(list: &[u8], out: &mut [u8; COLUMN_LENGTH]) -> usize
     ensures next { result ≡ length (column_text list.now) }
     ensures leaves { out.new ≡ put_at out.old 0 (column_text list.now) }
 {
-    let fault = list_fault(list);
-    if fault != cause::NONE {
-        return put_refused(out, fault);
-    }
-    put_lines(out, list)
+    let mut text = Text::new(out);
+    put_column(&mut text, list);
+    text.length()
 }

@@ -1,7 +1,6 @@
 // A list of charges: for each charge account the exact sum, and beside it the total as last year's program made it.
 #![tactic(auto)]
 
-mod cents;
 pub mod column;
 mod list;
 pub mod print;

@@ -1,12 +1,12 @@
 // A list of charges: what stands in it, and what is wrong with it.
-ghost use Rattle.std.specs.Prelude.{◌≡◌, ◌+◌};
-ghost use Rattle.charges.specs.List.{HasCharges, account_charged, word_charged, cents_charged, charge_fault, charges_fault, list_fault};
+ghost use Rattle.std.specs.Prelude.{◌≡◌};
+ghost use Rattle.rules.specs.Refusal.{refusal_of};
+ghost use Rattle.charges.specs.List.{charges_in, account_charged, word_charged, cents_charged, charge_fault, charges_fault, list_fault};
 
-use crate::cents::cents_of;
 use amounts::bytes::word_at;
 use amounts::limit::is_addable;
 use rules::amount::AMOUNT_LENGTH;
-use rules::cause;
+use rules::refusal::Refusal;
 use rules::store::{ACCOUNTS, FIRST_CHARGE};
 
 // Where a charge's cents begin, behind its account.
@@ -18,67 +18,58 @@ const MOST_CHARGES: usize = 1000;
 
 pub(crate) const LIST_LENGTH: usize = MOST_CHARGES * CHARGE_LENGTH;
 
-pub(crate) fn account_at(list: &[u8], i: usize) -> u64
-    requires { HasCharges list.now (i + 1) }
-    ensures { result ≡ account_charged list.now i }
+pub(crate) fn account_of(charge: &[u8; CHARGE_LENGTH]) -> u64
+    ensures { result ≡ account_charged charge.now 0 }
 {
-    list[CHARGE_LENGTH * i] as u64
+    u64::from(charge[0])
 }
 
-fn cents_word_at(list: &[u8], i: usize) -> u64
-    requires { HasCharges list.now (i + 1) }
-    ensures { result ≡ word_charged list.now i }
+fn cents_word(charge: &[u8; CHARGE_LENGTH]) -> u64
+    ensures { result ≡ word_charged charge.now 0 }
 {
-    word_at(list, CHARGE_LENGTH * i + CENTS_AT)
+    word_at(charge, CENTS_AT)
 }
 
-pub(crate) fn cents_at(list: &[u8], i: usize) -> i64
-    requires { HasCharges list.now (i + 1) }
-    ensures { result ≡ cents_charged list.now i }
+pub(crate) fn cents_of(charge: &[u8; CHARGE_LENGTH]) -> i64
+    ensures { result ≡ cents_charged charge.now 0 }
 {
-    cents_of(cents_word_at(list, i))
+    cents_word(charge).cast_signed()
 }
 
 // The account is asked before the cents.
-fn charge_fault(list: &[u8], i: usize) -> u64
-    requires { HasCharges list.now (i + 1) }
-    ensures { result ≡ charge_fault list.now i }
+#[tactic(auto, unfolding(crate::specs::List::charge_fault))]
+fn charge_fault(charge: &[u8; CHARGE_LENGTH]) -> Result<(), Refusal>
+    ensures { refusal_of result ≡ charge_fault charge.now 0 }
 {
-    let account = account_at(list, i);
-    if account < FIRST_CHARGE {
-        return cause::KIND;
+    if !(FIRST_CHARGE..ACCOUNTS).contains(&account_of(charge)) {
+        return Err(Refusal::Kind);
     }
-    if ACCOUNTS <= account {
-        return cause::KIND;
+    if !is_addable(cents_word(charge)) {
+        return Err(Refusal::Amount);
     }
-    if !is_addable(cents_word_at(list, i)) {
-        return cause::AMOUNT;
-    }
-    cause::NONE
+    Ok(())
 }
 
 // That of the first bad charge.
-fn charges_fault(list: &[u8], count: usize) -> u64
-    requires { HasCharges list.now count }
-    ensures { result ≡ charges_fault list.now 0 count }
+fn charges_fault(list: &[u8]) -> Result<(), Refusal>
+    ensures { refusal_of result ≡ charges_fault list.now 0 (charges_in list.now) }
 {
-    for i in 0..count {
-        let fault = charge_fault(list, i);
-        if fault != cause::NONE {
-            return fault;
-        }
+    let (charges, _) = list.as_chunks::<CHARGE_LENGTH>();
+    for charge in charges {
+        charge_fault(charge)?;
     }
-    cause::NONE
+    Ok(())
 }
 
-pub(crate) fn list_fault(list: &[u8]) -> u64
-    ensures { result ≡ list_fault list.now }
+#[tactic(auto, unfolding(crate::specs::List::list_fault))]
+pub(crate) fn list_fault(list: &[u8]) -> Result<(), Refusal>
+    ensures { refusal_of result ≡ list_fault list.now }
 {
     if LIST_LENGTH < list.len() {
-        return cause::COUNT;
+        return Err(Refusal::Count);
     }
     if list.len() % CHARGE_LENGTH != 0 {
-        return cause::LENGTH;
+        return Err(Refusal::Length);
     }
-    charges_fault(list, list.len() / CHARGE_LENGTH)
+    charges_fault(list)
 }

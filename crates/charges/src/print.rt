@@ -1,4 +1,6 @@
 // A list from a reader to a writer: what the column program and its test share.
+// Its body is that of dayio's `print_text`. One function for both would take a closure over `[u8; N]` with N a parameter, which the
+// check does not cover.
 ghost use Rattle.std.specs.Prelude.{IfOk, OnErr, OnOk};
 ghost use Rattle.charges.specs.Printed.{IsPrinted, PrintsColumn, PrintsPart};
 

@@ -1,9 +1,9 @@
 // An account's running record: last year's total, in binary fractions, and the exact one, which go everywhere together.
-ghost use Rattle.std.specs.Prelude.{◌≡◌, ◌+◌};
-ghost use Rattle.charges.specs.List.{HasCharges, IsFaultless, cents_charged};
+ghost use Rattle.std.specs.Prelude.{◌≡◌};
+ghost use Rattle.charges.specs.List.{IsFaultless, cents_charged};
 ghost use Rattle.charges.specs.Running.{uncharged as Running·uncharged, SumFits, charged_of, charged_by, running_of};
 
-use crate::list::{CHARGE_LENGTH, account_at, cents_at};
+use crate::list::{CHARGE_LENGTH, account_of, cents_of};
 
 #[derive(Clone, Copy)]
 pub struct Running {
@@ -31,13 +31,12 @@ fn charged(running: Running, cents: i64) -> Running
 }
 
 // A charge to another account leaves the record as it is.
-fn charged_by(list: &[u8], account: u64, i: usize, running: Running) -> Running
-    requires has_charges { HasCharges list.now (i + 1) }
-    requires sum_fits { SumFits running (cents_charged list.now i) }
-    ensures { result ≡ charged_by list.now account i running }
+fn charged_by(charge: &[u8; CHARGE_LENGTH], account: u64, running: Running) -> Running
+    requires { SumFits running (cents_charged charge.now 0) }
+    ensures { result ≡ charged_by charge.now account 0 running }
 {
-    if account_at(list, i) == account {
-        return charged(running, cents_at(list, i));
+    if account_of(charge) == account {
+        return charged(running, cents_of(charge));
     }
     running
 }
@@ -46,10 +45,10 @@ pub(crate) fn running_of(list: &[u8], account: u64) -> Running
     requires { IsFaultless list.now }
     ensures { result ≡ running_of list.now account }
 {
-    let count = list.len() / CHARGE_LENGTH;
+    let (charges, _) = list.as_chunks::<CHARGE_LENGTH>();
     let mut running = uncharged();
-    for i in 0..count {
-        running = charged_by(list, account, i, running);
+    for charge in charges {
+        running = charged_by(charge, account, running);
     }
     running
 }

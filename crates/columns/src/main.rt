@@ -7,6 +7,45 @@ use std::io::Result;
 use std::rt::Files;
 use std::{fs, io};
 
+const LISTS: [&str; 33] = [
+    // The worked lists of docs/RULES.md.
+    "list-01.charges",
+    "list-02.charges",
+    "list-03.charges",
+    "list-04.charges",
+    "list-05.charges",
+    "list-06.charges",
+    "list-07.charges",
+    "list-08.charges",
+    "list-09.charges",
+    "list-10.charges",
+    "list-11.charges",
+    "list-12.charges",
+    "list-13.charges",
+    "list-14.charges",
+    "list-15.charges",
+    "list-16-10-bytes.charges",
+    "list-16-5-bytes.charges",
+    "list-17.charges",
+    // Long and short lists of a season, some of them refused.
+    "season-01.charges",
+    "season-03.charges",
+    "season-05.charges",
+    "season-06.charges",
+    "season-10.charges",
+    "season-11.charges",
+    "season-17.charges",
+    "season-18.charges",
+    "season-19.charges",
+    "season-27.charges",
+    "season-32.charges",
+    "season-35.charges",
+    // All accounts in turn; a fault in the last charge alone; cents whose high byte stands first.
+    "all-accounts.charges",
+    "high-byte-first.charges",
+    "last-charge-bad.charges",
+];
+
 fn print_list(rt: &(impl Files + Print), name: &str) -> Result<()> {
     println!(rt; "{name}")?;
     let mut from = fs::open(rt, name)?;
@@ -14,56 +53,9 @@ fn print_list(rt: &(impl Files + Print), name: &str) -> Result<()> {
     Ok(())
 }
 
-// The worked lists of docs/RULES.md.
-fn print_worked(rt: &(impl Files + Print)) -> Result<()> {
-    print_list(rt, "list-01.charges")?;
-    print_list(rt, "list-02.charges")?;
-    print_list(rt, "list-03.charges")?;
-    print_list(rt, "list-04.charges")?;
-    print_list(rt, "list-05.charges")?;
-    print_list(rt, "list-06.charges")?;
-    print_list(rt, "list-07.charges")?;
-    print_list(rt, "list-08.charges")?;
-    print_list(rt, "list-09.charges")?;
-    print_list(rt, "list-10.charges")?;
-    print_list(rt, "list-11.charges")?;
-    print_list(rt, "list-12.charges")?;
-    print_list(rt, "list-13.charges")?;
-    print_list(rt, "list-14.charges")?;
-    print_list(rt, "list-15.charges")?;
-    print_list(rt, "list-16-10-bytes.charges")?;
-    print_list(rt, "list-16-5-bytes.charges")?;
-    print_list(rt, "list-17.charges")?;
-    Ok(())
-}
-
-// Long and short lists of a season, some of them refused.
-fn print_season(rt: &(impl Files + Print)) -> Result<()> {
-    print_list(rt, "season-01.charges")?;
-    print_list(rt, "season-03.charges")?;
-    print_list(rt, "season-05.charges")?;
-    print_list(rt, "season-06.charges")?;
-    print_list(rt, "season-10.charges")?;
-    print_list(rt, "season-11.charges")?;
-    print_list(rt, "season-17.charges")?;
-    print_list(rt, "season-18.charges")?;
-    print_list(rt, "season-19.charges")?;
-    print_list(rt, "season-27.charges")?;
-    print_list(rt, "season-32.charges")?;
-    print_list(rt, "season-35.charges")?;
-    Ok(())
-}
-
-// All accounts in turn; a fault in the last charge alone; cents whose high byte stands first.
-fn print_others(rt: &(impl Files + Print)) -> Result<()> {
-    print_list(rt, "all-accounts.charges")?;
-    print_list(rt, "high-byte-first.charges")?;
-    print_list(rt, "last-charge-bad.charges")?;
-    Ok(())
-}
-
 fn main(rt: HostRuntime) -> Result<()> {
-    print_worked(&rt)?;
-    print_season(&rt)?;
-    print_others(&rt)
+    for name in LISTS {
+        print_list(&rt, name)?;
+    }
+    Ok(())
 }

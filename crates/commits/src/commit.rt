@@ -6,7 +6,6 @@ ghost use Rattle.rules.specs.Ledger.{ledger_of};
 ghost use Rattle.rules.specs.Sound.{IsLiveAction, Sound};
 ghost use Rattle.rules.specs.Cause.{is_commit_outside};
 ghost use Rattle.rules.specs.Verdict.{commit_verdict};
-ghost use Rattle.rules.specs.declared.Found.TheVariants.{Nothing};
 ghost use Rattle.rules.specs.Commit.{commit_time, committed_under};
 ghost use Rattle.rules.specs.Step.{outcome_of, commit};
 ghost use Rattle.commits.specs.Outside.{unless_outside};
@@ -18,9 +17,10 @@ use crate::newest::note_ends;
 use crate::sums::is_outside;
 use rows::fields::{parent, set_state};
 use rows::join::join_sets;
-use rules::cause::SUM;
-use rules::table::{ABORTED, STORE};
-use rules::{Answer, Found};
+use rules::Answer;
+use rules::action::State;
+use rules::refusal::Refusal;
+use rules::table::STORE;
 use validation::verdict::commit_verdict;
 
 // A commit that passes: the copies, the end, the kept sums, the newest end times, and the sets for a parent that is an action.
@@ -29,7 +29,7 @@ pub(crate) fn pass(table: &mut [u64], base: &mut [u8], shadow: &mut [u8], n: u64
     requires sound { Sound table.old }
     requires live_action { IsLiveAction table.old n }
     requires stores_fit { StoresFit base.old shadow.old }
-    requires n_value { is_commit_outside table.old base.old n Nothing ≡ false }
+    requires n_value { is_commit_outside table.old base.old n None ≡ false }
     ensures time { result ≡ commit_time table.old n }
     ensures leaves { ledger_of table.new base.new shadow.new
         ≡ committed_under (ledger_of table.old base.old shadow.old) n
@@ -56,18 +56,17 @@ pub fn commit(table: &mut [u64], base: &mut [u8], shadow: &mut [u8], n: u64) -> 
         (ledger_of table.old base.old shadow.old)
         (commit (ledger_of table.old base.old shadow.old) n) }
 {
-    let found = commit_verdict(table, n);
-    match found {
-        Found::Nothing => {
+    match commit_verdict(table, n) {
+        None => {
             if is_outside(table, base, n) {
-                return Answer::Refused(SUM);
+                return Answer::Refused(Refusal::Sum);
             }
             let time = pass(table, base, shadow, n);
             Answer::Committed(time)
         }
-        Found::At(t, k) => {
-            set_state(table, n, ABORTED);
-            Answer::Failed(t, k)
+        Some(found) => {
+            set_state(table, n, State::Aborted);
+            Answer::Failed(found.against, found.account)
         }
     }
 }

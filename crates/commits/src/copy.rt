@@ -20,9 +20,7 @@ pub(crate) fn copy_down(table: &mut [u64], base: &mut [u8], shadow: &mut [u8], n
     ensures { ledger_of table.new base.new shadow.new
         ≡ copied_down (ledger_of table.old base.old shadow.old) n p 0 }
 {
-    let mut k = ACCOUNTS;
-    while k != FIRST_ACCOUNT {
-        k -= 1;
+    for k in (FIRST_ACCOUNT..ACCOUNTS).rev() {
         copy_one(table, base, shadow, n, p, k);
     }
 }

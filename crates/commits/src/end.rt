@@ -7,8 +7,8 @@ ghost use Rattle.rows.specs.Times.{kind_in, number_in, IsTime, CanCount};
 
 use rows::fields::{kind_of, set_state};
 use rows::sets::has_writes;
-use rows::times::{Time, after, counter, no_end, number_of, set_counter, set_end};
-use rules::table::COMMITTED;
+use rows::times::{Time, after, counter, no_end, set_counter, set_end};
+use rules::action::State;
 
 // The counter after a commit at this count, by whether it has written anything; and its end time.
 fn counter_after(writes: bool, count: Time) -> Time
@@ -36,8 +36,8 @@ pub(crate) fn end(table: &mut [u64], n: u64) -> u64
     let writes = has_writes(table, n);
     let time = end_time_after(writes, count);
     let next = counter_after(writes, count);
-    set_state(table, n, COMMITTED);
+    set_state(table, n, State::Committed);
     set_end(table, n, time);
     set_counter(table, next);
-    number_of(time)
+    u64::from(time)
 }

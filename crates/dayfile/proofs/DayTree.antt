@@ -52,6 +52,9 @@ module _ (w base shadow opening : List ℕ) (has : HasReport w base shadow openi
 
   module _ (buffer : List ℕ) (whole : length buffer ≡ report_length) {cause lines : ℕ} {words : List ℕ}
       (given : report_of cause lines words ≡ report w base shadow opening buffer) where
+    pub not_refused : cause ≡ 0
+    not_refused = ap (λ (r : Report). r.cause) (given ∙ reported buffer)
+
     pub lines_given : lines ≡ length (tree_lines w)
     lines_given = ap (λ (r : Report). r.lines) (given ∙ reported buffer)
 
@@ -100,10 +103,11 @@ module _ (s : Ledger) (opening file : List ℕ) where
 
   -- what the call gives back, refused or run
   pub tree_refused :
-      (buffer : List ℕ) {cause : ℕ} → cause ≡ day_tree_cause s opening file → cause ≢ 0 →
-      day_tree_of (length (refused_line cause)) (put_at buffer 0 (refused_line cause)) s opening ≡ run_day_tree s opening file buffer
+      (buffer : List ℕ) {cause size : ℕ} {out : List ℕ} → cause ≡ day_tree_cause s opening file → cause ≢ 0 →
+      size ≡ length (refused_line cause) → out ≡ put_at buffer 0 (refused_line cause) →
+      day_tree_of size out s opening ≡ run_day_tree s opening file buffer
   unfolding run_day_tree tree_of_day
-  tree_refused buffer {cause} is given = rw (sym is, ne_eqb cause 0 given)
+  tree_refused buffer {cause} is given is_size is_out = rw (is_size, is_out, sym is, ne_eqb cause 0 given)
 
   -- the table, the stores and the opening store as the run and the opening leave them
   module _ {table base shadow now : List ℕ} (leaves : ledger_of table base shadow ≡ (day_run s.shadow file).after)

@@ -84,13 +84,13 @@ module _ (s : Ledger) (file buffer : List ℕ) (a : Accepts s file) (room : HasA
       {table base events words : List ℕ} {now : Ledger} {cause : ℕ} → table ≡ open_table s.table backward_rule → base ≡ opening_base file →
       length base ≡ base_length → events ≡ event_bytes file →
       listed_of cause now words ≡ run_list (ledger_of table base s.shadow) events buffer →
-      (now ≡ (day_run s.shadow file).after) × (words ≡ day_words s.shadow file buffer)
+      (now ≡ (day_run s.shadow file).after) × (words ≡ day_words s.shadow file buffer) × (cause ≡ 0)
   unfolding new_table_under
   file_ran {table} {base} {events} {words} {now} {cause} is_table is_base fits is_events listed =
       let new : table ≡ new_table = is_table ∙ rw (eq-eqb _ table_length a.table_fits) in
       let long : length (opening_base file) ≡ base_length = ap length (sym is_base) ∙ fits in
       let ran = (rw (new, is_base, is_events) at listed) ∙ opened_ran long in
-      (ap (λ (l : Listed). l.after) ran, ap (λ (l : Listed). l.answers) ran)
+      (ap (λ (l : Listed). l.after) ran, ap (λ (l : Listed). l.answers) ran, ap (λ (l : Listed). l.cause) ran)
 
 -- ---- as many answers as events
 

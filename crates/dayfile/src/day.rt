@@ -1,6 +1,7 @@
 // A whole day on a lent ledger.
 ghost use Rattle.std.specs.Prelude.{◌≡◌};
 ghost use Rattle.rules.specs.Ledger.{ledger_of};
+ghost use Rattle.rules.specs.Refusal.{refusal_of};
 ghost use Rattle.dayread.specs.File.{event_count, events_place};
 ghost use Rattle.dayread.specs.Opening.{IsFaultless};
 ghost use Rattle.dayfile.specs.Day.{day_cause, Accepts, HasAnswerRoom, day_run, day_words, day_of, run_day};
@@ -9,27 +10,31 @@ use dayread::file::file_fault;
 use dayread::opening::open_base;
 use dayread::reader::byte_at;
 use listing::lines::put_listing;
-use rules::cause;
 use rules::day::{
     ANSWERS_LENGTH, CARD_COUNT_LENGTH, ENTRY_LENGTH, EVENT_COUNT_LENGTH, LISTING_LENGTH,
 };
 use rules::event::EVENT_LENGTH;
+use rules::refusal::Refusal;
+use rules::rule::Rule;
 use rules::store::{BASE_LENGTH, SHADOW_LENGTH};
-use rules::table::{BACKWARD_RULE, TABLE_LENGTH};
-use text::put_refused;
+use rules::table::TABLE_LENGTH;
+use text::Text;
 
-pub(crate) fn day_cause(file: &[u8], table: &[u64], base: &[u8], shadow: &[u8]) -> u64
-    ensures { result
+#[tactic(auto, unfolding(crate::specs::Day::day_cause))]
+pub(crate) fn day_cause(
+    file: &[u8],
+    table: &[u64],
+    base: &[u8],
+    shadow: &[u8],
+) -> Result<(), Refusal>
+    ensures { refusal_of result
         ≡ day_cause (ledger_of table.now base.now shadow.now) file.now }
 {
-    if base.len() != BASE_LENGTH {
-        return cause::STORE_LENGTH;
-    }
-    if shadow.len() != SHADOW_LENGTH {
-        return cause::STORE_LENGTH;
+    if base.len() != BASE_LENGTH || shadow.len() != SHADOW_LENGTH {
+        return Err(Refusal::StoreLength);
     }
     if table.len() != TABLE_LENGTH {
-        return cause::UNSOUND;
+        return Err(Refusal::Unsound);
     }
     file_fault(file)
 }
@@ -58,10 +63,10 @@ pub(crate) fn run_file(
     ensures answers { answers.new
         ≡ day_words shadow.old file.now answers.old }
 {
-    table::open(table, BACKWARD_RULE);
+    table::open(table, u64::from(Rule::Backward)).unwrap();
     open_base(file, base);
     let at = events_at(file);
-    lists::run::run(table, base, shadow, &file[at..], answers);
+    lists::run::run(table, base, shadow, &file[at..], answers).unwrap();
     (file.len() - at) / EVENT_LENGTH
 }
 
@@ -77,11 +82,13 @@ pub fn day(
         ≡ run_day (ledger_of table.old base.old shadow.old)
         file.now out.old }
 {
-    let cause = day_cause(file, table, base, shadow);
-    if cause != cause::NONE {
-        return put_refused(out, cause);
+    let mut text = Text::new(out);
+    if let Err(refusal) = day_cause(file, table, base, shadow) {
+        text.put_refused(u64::from(refusal));
+        return text.length();
     }
     let mut answers = [0; ANSWERS_LENGTH];
     let count = run_file(file, table, base, shadow, &mut answers);
-    put_listing(out, &answers, count, table)
+    put_listing(&mut text, &answers, count, table);
+    text.length()
 }

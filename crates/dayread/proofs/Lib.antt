@@ -1,3 +1,2 @@
 -- Facts that the proofs of reading a day file use.
 pub mod Faultless
-mod CopiedCard

@@ -1,5 +1,5 @@
 // The opening base store.
-ghost use Rattle.std.specs.Prelude.{◌≡◌, ◌+◌, ◌≤◌, ◌<◌, length, replicate};
+ghost use Rattle.std.specs.Prelude.{◌≡◌, ◌+◌, ◌≤◌, ◌<◌, length};
 ghost use Rattle.rules.specs.Card.{IsAccount, IsBase, base_place, with_card};
 ghost use Rattle.dayread.specs.File.{most_cards, account_place, account_at, opening_card};
 ghost use Rattle.dayread.specs.Opening.{IsFaultless, opening_base};
@@ -7,16 +7,7 @@ ghost use Rattle.dayread.specs.Opening.{IsFaultless, opening_base};
 use crate::reader::byte_at;
 use rules::day::{ACCOUNT_LENGTH, CARD_COUNT_LENGTH, ENTRY_LENGTH};
 use rules::store::CARD_LENGTH;
-
-fn clear(base: &mut [u8])
-    ensures { base.new ≡ replicate (length base.old) 0 }
-{
-    let mut i = 0;
-    while i < base.len() {
-        base[i] = 0;
-        i += 1;
-    }
-}
+use stores::cards::copy_card;
 
 // The ith opening card put at its account.
 fn put_opening(file: &[u8], base: &mut [u8], i: usize)
@@ -28,11 +19,7 @@ fn put_opening(file: &[u8], base: &mut [u8], i: usize)
 {
     let entry = CARD_COUNT_LENGTH + ENTRY_LENGTH * i;
     let account = byte_at(file, entry);
-    let from = entry + ACCOUNT_LENGTH;
-    let to = from + CARD_LENGTH;
-    let at = CARD_LENGTH * account;
-    let end = at + CARD_LENGTH;
-    base[at..end].copy_from_slice(&file[from..to]);
+    copy_card(base, CARD_LENGTH * account, file, entry + ACCOUNT_LENGTH);
 }
 
 pub fn open_base(file: &[u8], base: &mut [u8])
@@ -40,7 +27,7 @@ pub fn open_base(file: &[u8], base: &mut [u8])
     requires base { IsBase base.old }
     ensures { base.new ≡ opening_base file.now }
 {
-    clear(base);
+    base.fill(0);
     let count = byte_at(file, 0);
     for i in 0..count {
         put_opening(file, base, i);

@@ -4,7 +4,8 @@ ghost use Rattle.dayread.specs.File.{IsByte, IsInside, number_at};
 
 use crate::raw::{byte, two_bytes};
 
-// RULES 9.4. The functions over it are thin: each takes it apart and calls one on the slice and the place.
+// A struct, not the rest of the slice alone: RULES 9.4 asks for the file and a place in it together. The functions over it are thin:
+// each takes it apart and calls one on the slice and the place.
 #[derive(Clone, Copy)]
 pub(crate) struct Reader<'a> {
     pub file: &'a [u8],

@@ -1,4 +1,3 @@
--- What a step is, kind by kind, where no early cause applies, what the event may then ask for, and the bytes of a card.
-mod CardPart
+-- What a step is, by its code, where no early cause applies, and what the event may then ask for.
 mod Permitted
 mod Summed

@@ -2,29 +2,48 @@
 use Prim.Native.Nat.{ℕ}
 use mathlib.Core.Path.{◌≡◌, refl, sym, ◌∙◌}
 use mathlib.Core.Bool.{Bool, true, false, cond}
-use mathlib.Core.Logic.{◌≢◌}
 use mathlib.Core.List.{List}
-use borrow.Author.Tests.{ne_eqb}
 use lib.Dec.{eqb}
 use Rattle.rules.specs.declared.Answer.{Answer}
 use Rattle.rules.specs.declared.Answer.TheVariants.{Refused}
-use Rattle.rules.specs.Event.{Event, start_code, read_code, write_code, commit_code, add_code}
+use Rattle.rules.specs.declared.event.Code.{Code}
+use Rattle.rules.specs.declared.event.Code.TheVariants.{Start, Read, Write, Commit, Abort, Add, Enter, Judge}
+use Rattle.rules.specs.declared.refusal.Refusal.TheVariants.{Sum}
+use Rattle.rules.specs.Code.{code_number}
+use Rattle.rules.specs.Refusal.{refusal_numbered}
+use Rattle.rules.specs.Event.{Event}
 use Rattle.rules.specs.Cause.{first_cause, early_causes, sum_cause, is_read_outside, is_add_outside, is_commit_outside, are_outside, is_sum_outside}
 use Rattle.rules.specs.Verdict.{commit_verdict}
 use Rattle.rules.specs.Ledger.{Ledger, ledger_of}
-use Rattle.rules.specs.Step.{outcome_of, start, read, write, add, commit, act, step}
+use Rattle.rules.specs.Step.{Outcome, outcome_of, start, read, write, add, commit, enter, judge, abort, act, step}
 use Rattle.causes.proofs.Grouped.{Accepted, event_summed}
 use Rattle.events.specs.Sums.{read_says, read_leaves, add_says, add_leaves}
 use Rattle.commits.specs.Outside.{unless_outside}
-use Rattle.dispatch.specs.Turn.{turn}
 
 -- an answer and a table that a sum decides, beside stores that stay, are an outcome that it decides
 decided :
     (outside : Bool) (answer : Answer) (w v base shadow : List ℕ) →
-    outcome_of (cond outside (Refused sum_cause) answer) (cond outside w v) base shadow
+    outcome_of (cond outside (Refused Sum) answer) (cond outside w v) base shadow
     ≡ unless_outside outside (ledger_of w base shadow) (outcome_of answer v base shadow)
 decided true answer w v base shadow = refl
 decided false answer w v base shadow = refl
+
+-- what a step makes of an event with this code: of a sum that a read, an add or a commit makes it may be refused
+abbrev pub step_as : Ledger → Event → Code → Outcome
+step_as s e Start = start s e.number
+step_as s e Read =
+    outcome_of (read_says s.table s.base e.number e.account) (read_leaves s.table s.base e.number e.account)
+    s.base s.shadow
+step_as s e Write = write s e.number e.account e.card
+step_as s e Commit =
+    unless_outside (is_commit_outside s.table s.base e.number (commit_verdict s.table e.number)) s
+    (commit s e.number)
+step_as s e Abort = abort s e.number
+step_as s e Add =
+    outcome_of (add_says s.table e.number e.account e.card) (add_leaves s.table e.number e.account e.card)
+    s.base s.shadow
+step_as s e Enter = enter s e.number
+step_as s e Judge = judge s e.number
 
 module _
     (s : Ledger) (e : Event) (accepted : Accepted s.table s.base s.shadow)
@@ -36,60 +55,24 @@ module _
     where
       cases :
           (b : Bool) →
-          cond (eqb (cond b sum_cause 0) 0) (act s e) (record { answer = Refused (cond b sum_cause 0); after = s })
+          cond (eqb (cond b sum_cause 0) 0) (act s e) (record { answer = Refused (refusal_numbered (cond b sum_cause 0)); after = s })
           ≡ unless_outside b s (act s e)
       cases true = refl
       cases false = refl
 
-  pub step_of_start : e.code ≡ start_code → step s e ≡ start s e.number
-  unfolding act are_outside
-  step_of_start is = summed ∙ rw is
-
-  pub step_of_read :
-      e.code ≡ read_code →
-      step s e
-      ≡ outcome_of (read_says s.table s.base e.number e.account) (read_leaves s.table s.base e.number e.account)
-      s.base s.shadow
-  unfolding act are_outside read
-  step_of_read is =
+  pub step_by_code : (code : Code) → code_number code ≡ e.code → step s e ≡ step_as s e code
+  unfolding act are_outside read add
+  step_by_code Start is = summed ∙ rw (← is)
+  step_by_code Read is =
       summed
-      ∙ rw is
+      ∙ rw (← is)
       (sym (decided (is_read_outside s.table s.base e.number e.account) _ s.table _ s.base s.shadow))
-
-  pub step_of_write : e.code ≡ write_code → step s e ≡ write s e.number e.account e.card
-  unfolding act are_outside
-  step_of_write is = summed ∙ rw is
-
-  pub step_of_commit :
-      e.code ≡ commit_code →
-      step s e
-      ≡ unless_outside (is_commit_outside s.table s.base e.number (commit_verdict s.table e.number)) s
-      (commit s e.number)
-  unfolding act are_outside
-  step_of_commit is = summed ∙ rw is
-
-  pub step_of_add :
-      e.code ≡ add_code →
-      step s e
-      ≡ outcome_of (add_says s.table e.number e.account e.card) (add_leaves s.table e.number e.account e.card)
-      s.base s.shadow
-  unfolding act are_outside add
-  step_of_add is =
+  step_by_code Write is = summed ∙ rw (← is)
+  step_by_code Commit is = summed ∙ rw (← is)
+  step_by_code Abort is = summed ∙ rw (← is)
+  step_by_code Add is =
       summed
-      ∙ rw is
+      ∙ rw (← is)
       (sym (decided (is_add_outside s.table e.number e.account e.card) _ s.table _ s.base s.shadow))
-
-  -- an enter, a judge or an abort makes no sum of which it is refused
-  pub step_of_turn :
-      e.code ≢ start_code → e.code ≢ read_code → e.code ≢ write_code → e.code ≢ commit_code → e.code ≢ add_code →
-      step s e ≡ turn s e.code e.number
-  unfolding act are_outside turn
-  step_of_turn no_start no_read no_write no_commit no_add =
-      summed
-      ∙ rw (
-        ne_eqb e.code start_code no_start,
-        ne_eqb e.code read_code no_read,
-        ne_eqb e.code write_code no_write,
-        ne_eqb e.code commit_code no_commit,
-        ne_eqb e.code add_code no_add,
-      )
+  step_by_code Enter is = summed ∙ rw (← is)
+  step_by_code Judge is = summed ∙ rw (← is)

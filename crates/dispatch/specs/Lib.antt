@@ -1,3 +1,2 @@
--- The events that the queues' rules carry out, and an event in a list of bytes.
-pub mod Turn
+-- An event in a list of bytes.
 pub mod Listed

@@ -1,7 +1,9 @@
 // Why an event on a sound table, over stores that fit, would be refused.
 ghost use Rattle.std.specs.Prelude.{◌≡◌};
+ghost use Rattle.rules.specs.Asked.{event_in};
 ghost use Rattle.rules.specs.Card.{IsBase};
-ghost use Rattle.rules.specs.Event.{event_of};
+ghost use Rattle.rules.specs.Code.{code_number};
+ghost use Rattle.rules.specs.Refusal.{refusal_of};
 ghost use Rattle.rules.specs.Sound.{Sound};
 ghost use Rattle.rules.specs.Cause.{first_cause, early_causes, is_sum_outside, later_cause};
 
@@ -9,55 +11,35 @@ use causes::cause::event_cause;
 use commits::sums::is_commit_outside;
 use events::add::is_add_outside;
 use events::read::is_read_outside;
-use rules::{cause, event};
+use rules::event::{Code, Event};
+use rules::refusal::Refusal;
 
 // A sum that the event makes is no amount, by its code; it has none of the early causes.
-fn is_event_outside(
-    table: &[u64],
-    base: &[u8],
-    code: u64,
-    number: u64,
-    account: u64,
-    card: &[u8],
-) -> bool
+#[tactic(auto, unfolding(rules::specs::Cause::are_outside))]
+fn is_event_outside(table: &[u64], base: &[u8], code: Code, event: Event<'_>) -> bool
     requires sound { Sound table.now }
     requires base { IsBase base.now }
-    requires card_value { first_cause (early_causes table.now (event_of code number account card.now)) ≡ 0 }
-    ensures { result
-        ≡ is_sum_outside table.now base.now (event_of code number account card.now) }
+    requires code { code_number code ≡ event.code }
+    requires allowed { first_cause (early_causes table.now (event_in event)) ≡ 0 }
+    ensures { result ≡ is_sum_outside table.now base.now (event_in event.entry) }
 {
-    if code == event::READ {
-        return is_read_outside(table, base, number, account);
+    match code {
+        Code::Read => is_read_outside(table, base, event.number, event.account),
+        Code::Add => is_add_outside(table, event.number, event.account, event.card),
+        Code::Commit => is_commit_outside(table, base, event.number),
+        _ => false,
     }
-    if code == event::ADD {
-        return is_add_outside(table, number, account, card);
-    }
-    if code == event::COMMIT {
-        return is_commit_outside(table, base, number);
-    }
-    false
 }
 
-// The number of its cause, none where it would be carried out.
-pub fn sound_cause(
-    table: &[u64],
-    base: &[u8],
-    code: u64,
-    number: u64,
-    account: u64,
-    card: &[u8],
-) -> u64
+// Ok where it would be carried out.
+pub fn sound_cause(table: &[u64], base: &[u8], event: Event<'_>) -> Result<(), Refusal>
     requires sound { Sound table.now }
     requires base { IsBase base.now }
-    ensures { result
-        ≡ later_cause table.now base.now (event_of code number account card.now) }
+    ensures { refusal_of result ≡ later_cause table.now base.now (event_in event.entry) }
 {
-    let early = event_cause(table, code, number, account, card);
-    if early != cause::NONE {
-        return early;
+    let code = event_cause(table, event)?;
+    if is_event_outside(table, base, code, event) {
+        return Err(Refusal::Sum);
     }
-    if is_event_outside(table, base, code, number, account, card) {
-        return cause::SUM;
-    }
-    cause::NONE
+    Ok(())
 }

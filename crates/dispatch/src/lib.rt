@@ -5,4 +5,3 @@ mod act;
 pub mod cause;
 pub mod event;
 pub mod listed;
-mod turn;

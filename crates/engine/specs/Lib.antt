@@ -1,4 +1,3 @@
--- What an event gives back, what a look is at, and where its part lies.
+-- What an event gives back, and where the part lies that a look gives.
 pub mod Place
 pub mod Promise
-pub mod Sight

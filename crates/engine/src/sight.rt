@@ -1,70 +1,60 @@
-// What a look is at: its cause, or the nearest version.
-ghost use Rattle.std.specs.Prelude.{◌≡◌};
+// What a look is at: the nearest version, or why it isn't given.
+ghost use Rattle.std.specs.Prelude.{◌≡◌, cond, IfOk};
 ghost use Rattle.rules.specs.Card.{IsBase};
+ghost use Rattle.rules.specs.Cause.{sum_cause, is_read_outside};
+ghost use Rattle.rules.specs.Look.{look_cause};
+ghost use Rattle.rules.specs.Nearest.{version};
+ghost use Rattle.rules.specs.Refusal.{refusal_of};
 ghost use Rattle.ancestry.specs.Ancestry.{Readable};
-ghost use Rattle.engine.specs.Sight.{refused_sight, late_sight, sight_of};
 
 use ancestry::charge::seen_by;
 use ancestry::walk::nearest;
 use causes::cause::{event_cause, store_cause};
-use rules::cause::{NONE, SUM};
-use rules::event::READ;
+use rules::Version;
+use rules::event::{Code, Event};
+use rules::refusal::Refusal;
 use rules::store::FIRST_CHARGE;
-use rules::table::{NO_MOVES, STORE};
+use rules::table::STORE;
 
-#[derive(Clone, Copy)]
-pub struct Sight {
-    pub cause: u64,
-    pub holder: u64,
-    pub moves: u64,
-}
-
-fn refused_sight(cause: u64) -> Sight
-    ensures { result ≡ refused_sight cause }
-{
-    Sight {
-        cause: cause,
-        holder: STORE,
-        moves: NO_MOVES,
-    }
-}
-
-// The nearest version; of a charge account that is the base card, whose sum may be no amount.
-fn late_sight(table: &[u64], base: &[u8], n: u64, k: u64) -> Sight
+// Of a charge account it is the base card, whose sum may be no amount.
+#[tactic(auto, unfolding(rules::specs::Cause::is_read_outside))]
+fn late_sight(table: &[u64], base: &[u8], n: u64, k: u64) -> Result<Version, Refusal>
     requires readable { Readable table.now n k }
     requires base { IsBase base.now }
-    ensures { result ≡ late_sight table.now base.now n k }
+    ensures cause { refusal_of result ≡ cond (is_read_outside table.now base.now n k) sum_cause 0 }
+    ensures version { IfOk result (λ found. found ≡ version table.now n k) }
 {
     if k < FIRST_CHARGE {
-        let found = nearest(table, n, k);
-        return Sight {
-            cause: NONE,
-            holder: found.holder,
-            moves: found.moves,
-        };
+        return Ok(nearest(table, n, k));
     }
     let seen = seen_by(table, base, n, k);
-    if !seen.fits {
-        return refused_sight(SUM);
+    if seen.sum.is_none() {
+        return Err(Refusal::Sum);
     }
-    Sight {
-        cause: NONE,
+    Ok(Version {
         holder: STORE,
         moves: seen.moves,
-    }
+    })
 }
 
 // The causes are a read's, whose card is not looked at.
-pub(crate) fn sight_of(table: &[u64], base: &[u8], shadow: &[u8], n: u64, k: u64) -> Sight
-    ensures { result ≡ sight_of table.now base.now shadow.now n k }
+pub(crate) fn sight_of(
+    table: &[u64],
+    base: &[u8],
+    shadow: &[u8],
+    n: u64,
+    k: u64,
+) -> Result<Version, Refusal>
+    ensures cause { refusal_of result ≡ look_cause table.now base.now shadow.now n k }
+    ensures version { IfOk result (λ found. found ≡ version table.now n k) }
 {
-    let outer = store_cause(table, base, shadow);
-    if outer != NONE {
-        return refused_sight(outer);
-    }
-    let inner = event_cause(table, READ, n, k, &base[0..0]);
-    if inner != NONE {
-        return refused_sight(inner);
-    }
+    store_cause(table, base, shadow)?;
+    let read = Event {
+        code: u64::from(Code::Read),
+        number: n,
+        account: k,
+        card: &[],
+    };
+    event_cause(table, read)?;
     late_sight(table, base, n, k)
 }

@@ -8,7 +8,7 @@ ghost use Rattle.ancestry.specs.Ancestry.{LiveClimb};
 
 use ancestry::walk::is_aborted_by;
 use rows::fields::{highest, set_state};
-use rules::table::ABORTED;
+use rules::action::State;
 
 // How many became aborted.
 pub fn abort_live(table: &mut [u64], n: u64) -> u64
@@ -20,7 +20,7 @@ pub fn abort_live(table: &mut [u64], n: u64) -> u64
     let mut found = 0;
     for m in 1..last + 1 {
         if is_aborted_by(table, n, m) {
-            set_state(table, m, ABORTED);
+            set_state(table, m, State::Aborted);
             found += 1;
         }
     }

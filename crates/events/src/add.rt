@@ -13,7 +13,7 @@ use amounts::sum::{Sum, is_amount, of_word, plus};
 use rows::fields::{own_adds, pending, set_own_adds, set_pending, set_write_entry};
 use rules::Answer;
 use rules::amount::AMOUNT_AT;
-use rules::cause::SUM;
+use rules::refusal::Refusal;
 use rules::table::ENTERED;
 
 // A word's amount and the card's.
@@ -31,11 +31,8 @@ pub fn is_add_outside(table: &[u64], n: u64, k: u64, card: &[u8]) -> bool
     ensures { result ≡ is_add_outside table.now n k card.now }
 {
     let sum = with_amount(pending(table, n, k), card);
-    if !is_amount(sum) {
-        return true;
-    }
     let own = with_amount(own_adds(table, n, k), card);
-    !is_amount(own)
+    !is_amount(sum) || !is_amount(own)
 }
 
 // The account entered, and both sums with the card's amount put.
@@ -60,7 +57,7 @@ pub fn add(table: &mut [u64], n: u64, k: u64, card: &[u8]) -> Answer
     ensures leaves { table.new ≡ add_leaves table.old n k card.now }
 {
     if is_add_outside(table, n, k, card) {
-        return Answer::Refused(SUM);
+        return Answer::Refused(Refusal::Sum);
     }
     put_sums(table, n, k, card);
     Answer::Added

@@ -1,5 +1,5 @@
 // The start of an action.
-ghost use Rattle.std.specs.Prelude.{◌≡◌, cond, max};
+ghost use Rattle.std.specs.Prelude.{◌≡◌, cond};
 ghost use Rattle.rules.specs.Table.{IsAction, is_child_of, with_parent, without_adds, without_kept, without_newest, with_sets};
 ghost use Rattle.rules.specs.Free.{next_number};
 ghost use Rattle.rules.specs.Sound.{Sound};
@@ -11,7 +11,7 @@ use numbers::free::next_number;
 use rows::fields::{highest, parent, set_highest, set_parent, set_state};
 use rows::sets::{clear_kept, clear_newest, clear_own_adds, clear_sets};
 use rows::times::clear_end;
-use rules::table::LIVE;
+use rules::action::State;
 
 // Action m, where it was a child of the earlier holder of n, is nobody's.
 fn orphan_one(table: &mut [u64], n: u64, m: u64)
@@ -19,10 +19,9 @@ fn orphan_one(table: &mut [u64], n: u64, m: u64)
     ensures { table.new
         ≡ cond (is_child_of table.old n m) (with_parent table.old m m) table.old }
 {
-    if parent(table, m) != n {
-        return;
+    if parent(table, m) == n {
+        set_parent(table, m, m);
     }
-    set_parent(table, m, m);
 }
 
 fn orphan(table: &mut [u64], n: u64)
@@ -33,15 +32,6 @@ fn orphan(table: &mut [u64], n: u64)
     for m in 1..last + 1 {
         orphan_one(table, n, m);
     }
-}
-
-fn larger(a: u64, b: u64) -> u64
-    ensures { result ≡ max a b }
-{
-    if a < b {
-        return b;
-    }
-    a
 }
 
 // What the row has for each account: nothing added, nothing kept or noted of children, nothing read or written.
@@ -58,16 +48,17 @@ fn clear_accounts(table: &mut [u64], n: u64)
 }
 
 // Every field of the new action's row is set, whatever stood there.
+#[tactic(auto, unfolding(rules::specs::Step::give_table))]
 fn give(table: &mut [u64], n: u64, p: u64)
     requires scannable { Scannable table.old }
     requires action { IsAction n }
     ensures { table.new ≡ give_table table.old n p }
 {
-    let top = larger(highest(table), n);
+    let top = highest(table).max(n);
     orphan(table, n);
     set_highest(table, top);
     set_parent(table, n, p);
-    set_state(table, n, LIVE);
+    set_state(table, n, State::Live);
     clear_end(table, n);
     clear_accounts(table, n);
 }
@@ -79,7 +70,7 @@ pub fn start(table: &mut [u64], p: u64) -> u64
     ensures number { result ≡ next_number table.old }
     ensures leaves { table.new ≡ give_table table.old (next_number table.old) p }
 {
-    let n = next_number(table);
+    let n = next_number(table).unwrap();
     give(table, n, p);
     n
 }

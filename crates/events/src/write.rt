@@ -11,6 +11,7 @@ use rules::table::ENTERED;
 use stores::cards::put_card;
 use stores::place::shadow_place;
 
+#[tactic(auto, unfolding(rules::specs::Step::write_table))]
 pub fn write(table: &mut [u64], shadow: &mut [u8], n: u64, k: u64, card: &[u8])
     requires has_row { HasRow table.old n }
     requires action { IsAction n × IsAccount k }

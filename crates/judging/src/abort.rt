@@ -9,15 +9,15 @@ use crate::leave::leave_both;
 use events::abort::abort_live;
 use queue::change::take_out;
 use rules::Answer;
-use rules::table::{SUB, TOP};
+use rules::action::Kind;
 
 // The table is sound after each: either queue closes up by itself.
 fn take_out_of_both(table: &mut [u64], n: u64)
     requires { Sound table.old }
     ensures { table.new ≡ out_of_both table.old n }
 {
-    take_out(table, TOP, n);
-    take_out(table, SUB, n);
+    take_out(table, Kind::Top, n);
+    take_out(table, Kind::Sub, n);
 }
 
 pub fn abort(table: &mut [u64], base: &mut [u8], shadow: &mut [u8], n: u64) -> Answer

@@ -12,7 +12,7 @@ use queue::change::{mark_ready, take_out};
 use queue::find::is_queued_failed;
 use rows::fields::{kind_of, set_state};
 use rules::Answer;
-use rules::table::ABORTED;
+use rules::action::State;
 
 fn reveal(table: &mut [u64], n: u64, failed: bool)
     requires sound { Sound table.old }
@@ -22,10 +22,10 @@ fn reveal(table: &mut [u64], n: u64, failed: bool)
     let h = kind_of(table, n);
     if failed {
         take_out(table, h, n);
-        set_state(table, n, ABORTED);
-        return;
+        set_state(table, n, State::Aborted);
+    } else {
+        mark_ready(table, h, n);
     }
-    mark_ready(table, h, n);
 }
 
 pub fn judge(table: &mut [u64], base: &mut [u8], shadow: &mut [u8], n: u64) -> Answer

@@ -2,7 +2,6 @@
 -- 1,000 answers and the last line fit 81,920 bytes. Assumes nothing.
 use Prim.Native.Nat.{ℕ, zero, suc, ◌+◌, ◌-◌, ◌*◌, ◌^◌, ◌≤◌, ◌<◌}
 use native.Mathlib.Omega.{arith}
-use mathlib.Core.Path.{◌≡◌}
 use mathlib.Core.Bool.{Bool, cond}
 use mathlib.Core.Option.{Option}
 use mathlib.Core.List.{List, ◌∷◌}
@@ -13,7 +12,7 @@ use Rattle.rules.specs.Encoding.{most_events, answer_length, refused_kind, start
 use Rattle.rules.proofs.Laws.Tests.{cond_holds}
 use Rattle.text.specs.Text.{decimal, spaced, refused_line}
 use Rattle.listing.specs.Listing.{spaced_sum, end_line}
-use Rattle.listing.specs.Buffer.{word_of, has_no_numbers, has_two_numbers, numbers_of, said_sum, text_of, line_of, lines_of, listing_length}
+use Rattle.listing.specs.Buffer.{word_of, has_no_numbers, has_two_numbers, numbers_of, said_sum, text_of, line_of, line_at, lines_of, listing_length}
 use Rattle.text.proofs.Decimals.{decimal_bound, decimal_below, signed_bound}
 use Rattle.text.proofs.RefusedLine.{refused_bound}
 use Rattle.listing.proofs.Pieces.{length_of_line, length_of_end}
@@ -110,13 +109,17 @@ lines_bound words place i (suc n) h =
       lines_bound words (suc place) (suc i) n (omega arith),
     ))
 
--- behind the lines of some of a day's answers there is room for one more
+-- behind the lines of some of a day's answers there is room for the next one's
 pub line_fits :
-    (words : List ℕ) (i place kind first second third : ℕ) {at room : ℕ} →
-    at ≡ 0 + length (lines_of words 1 0 i) → i < most_events → place < 10 ^ place_digits → room ≡ listing_length →
-    at + length (line_of place kind first second third) ≤ room
-line_fits words i place kind first second third is more digits room =
-    omega (arith, lines_bound words 1 0 i (omega arith), line_bound place kind first second third digits)
+    (words : List ℕ) (n : ℕ) → n < most_events →
+    length (lines_of words 1 0 n) + length (line_at words (n + 1) n) ≤ listing_length
+line_fits words n more =
+    omega (
+      arith,
+      lines_bound words 1 0 n (omega arith),
+      line_bound (n + 1) (get_or words (answer_length * n) 0) (get_or words (answer_length * n + 1) 0)
+          (get_or words (answer_length * n + 2) 0) (get_or words (answer_length * n + 3) 0) (omega arith),
+    )
 
 -- the longest last line: a word of 3 letters, three numbers of 20 digits, three spaces and a line feed
 abbrev pub end_length : ℕ

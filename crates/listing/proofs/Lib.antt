@@ -3,5 +3,8 @@ mod Pieces
 pub mod Bounds
 mod Starts
 pub mod AnswerLines
+mod RowWords
+mod AnswerRows
+mod TreeRows
 pub mod TreePieces
 pub mod TreeText

@@ -60,17 +60,17 @@ module _ (kind first second : ℕ) where
     unfolding text_of said_sum spaced_sum
     text_sum is = rw (eq-eqb kind read_sum_kind is)
 
+    pub length_with_sum :
+        kind ≡ read_sum_kind →
+        length (text_of kind first second third)
+        ≡ length (word_of kind) + length (spaced (numbers_of kind first second)) + length (space ∷ signed (amount_of third))
+    length_with_sum is = rw (text_sum is) (simp length-append (omega arith))
+
     -- any other answer: the word and the numbers
     pub text_plain :
         (kind ≡ read_sum_kind → ⊥) → text_of kind first second third ≡ word_of kind ++ spaced (numbers_of kind first second)
     unfolding text_of said_sum spaced_sum
     text_plain other = rw (ne_eqb kind read_sum_kind other, append-nil)
-
-    -- there is room for the word and for the numbers
-    pub numbers_fit :
-        length (word_of kind) + length (spaced (numbers_of kind first second)) ≤ length (text_of kind first second third)
-    unfolding text_of
-    numbers_fit = simp length-append (omega arith)
 
     pub length_of_line :
         (place : ℕ)

@@ -1,7 +1,8 @@
--- A listing's buffer, and its lines from answers as they lie in words. Assumes nothing.
-use Rattle.std.specs.Prelude.{ℕ, zero, suc, ◌+◌, ◌*◌, ◌≤◌, ◌≡◌, Bool, cond, ◌||◌, List, [], ◌∷◌, ◌++◌, eqb, length, get_or, ℤ}
+-- How long a listing is at most, and its lines from answers as they lie in words. Assumes nothing.
+use Rattle.std.specs.Prelude.{ℕ, zero, suc, ◌+◌, ◌*◌, ◌≤◌, Bool, cond, ◌||◌, List, [], ◌∷◌, ◌++◌, eqb, length, get_or, ℤ}
 use Rattle.std.proofs.Math.Option.{Option, none, some}
 use Rattle.rules.specs.declared.Answer.TheVariants.{Started, Read, ReadSum, Written, Added, Entered, Ready, JudgedFailed, Committed, Failed, Aborted, Refused}
+use Rattle.rules.specs.declared.refusal.Refusal.TheVariants.{StoreLength}
 use Rattle.rules.specs.Kind.{top_kind, sub_kind}
 use Rattle.rules.specs.Amount.{amount_of}
 use Rattle.rules.specs.Table.{counter}
@@ -14,9 +15,6 @@ use Rattle.listing.specs.Listing.{spaced_sum, end_line}
 abbrev pub listing_length : ℕ
 listing_length = 81920
 
-abbrev pub IsListingBuffer : List ℕ → Type 0
-IsListingBuffer buffer = length buffer ≡ listing_length
-
 -- a buffer of words has this many answers, and they are no more than a day has events
 abbrev pub HasAnswers : List ℕ → ℕ → Type 0
 HasAnswers words count = (count ≤ most_events) × (answer_length * count ≤ length words)
@@ -24,7 +22,7 @@ HasAnswers words count = (count ≤ most_events) × (answer_length * count ≤ l
 -- RULES 5: the word of an answer, by its kind
 unfoldable pub word_of : ℕ → List ℕ
 word_of kind =
-    cond (eqb kind refused_kind) (said (Refused 0)).word
+    cond (eqb kind refused_kind) (said (Refused StoreLength)).word
     (cond (eqb kind started_kind) (said (Started 0)).word
     (cond (eqb kind read_kind) (said (Read 0 0)).word
     (cond (eqb kind written_kind) (said Written).word
@@ -59,7 +57,13 @@ text_of kind first second third = word_of kind ++ spaced (numbers_of kind first 
 unfoldable pub line_of : ℕ → ℕ → ℕ → ℕ → ℕ → List ℕ
 line_of place kind first second third = decimal place ++ (space ∷ text_of kind first second third) ++ (line_feed ∷ [])
 
--- the line of the ith answer, with this place in front
+-- the text of the ith answer
+abbrev pub text_at : List ℕ → ℕ → List ℕ
+text_at words i =
+    text_of (get_or words (answer_length * i) 0) (get_or words (answer_length * i + 1) 0)
+    (get_or words (answer_length * i + 2) 0) (get_or words (answer_length * i + 3) 0)
+
+-- its line, with this place in front
 abbrev pub line_at : List ℕ → ℕ → ℕ → List ℕ
 line_at words place i =
     line_of place (get_or words (answer_length * i) 0) (get_or words (answer_length * i + 1) 0)

@@ -2,4 +2,5 @@
 #![tactic(auto)]
 
 pub mod lines;
+mod rows;
 pub mod tree;

@@ -5,12 +5,9 @@ use Rattle.rules.specs.Encoding.{event_length, events_in, answer_length, words_o
 use Rattle.rules.specs.Cause.{first_cause, length_cause, store_causes}
 use Rattle.rules.specs.Run.{run}
 
--- a buffer has all words of an answer, or all bytes of an event, at this place
+-- a buffer has all words of an answer at this place
 abbrev pub AnswerFits : List ℕ → ℕ → Type 0
 AnswerFits buffer at = at + answer_length ≤ length buffer
-
-abbrev pub EventFits : List ℕ → ℕ → Type 0
-EventFits bytes at = at + event_length ≤ length bytes
 
 -- bytes that are no whole number of events, or a buffer too short for the answers
 abbrev pub is_list_length_wrong : List ℕ → List ℕ → Bool

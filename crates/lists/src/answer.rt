@@ -9,7 +9,7 @@ pub fn words(a: Answer) -> [u64; kind::ANSWER_LENGTH]
     ensures { result ≡ words_of a }
 {
     match a {
-        Answer::Refused(c) => [kind::REFUSED, c, 0, 0],
+        Answer::Refused(refusal) => [kind::REFUSED, u64::from(refusal), 0, 0],
         Answer::Started(n) => [kind::STARTED, n, 0, 0],
         Answer::Read(holder, moves) => [kind::READ, holder, moves, 0],
         Answer::Written => [kind::WRITTEN, 0, 0, 0],

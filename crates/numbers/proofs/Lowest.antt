@@ -2,13 +2,17 @@
 -- Assumes nothing.
 use Prim.Native.Nat.{ℕ, ◌+◌, ◌-◌, ◌≤◌, ◌<◌}
 use native.Mathlib.Omega.{arith}
-use mathlib.Core.Path.{◌≡◌}
-use mathlib.Core.Bool.{true, false}
+use mathlib.Core.Path.{◌≡◌, refl}
+use mathlib.Core.Bool.{Bool, true, false}
 use mathlib.Core.List.{List}
-use borrow.Author.Tests.{lt-ltb, le-ltb, ne_eqb}
+use lib.Dec.{ltb}
+use borrow.Author.Tests.{ne_eqb}
+use Rattle.std.specs.Prelude.{Some}
+use Rattle.std.specs.Bool.{then_some}
 use Rattle.rules.specs.Range.{up_from}
 use Rattle.rules.specs.Table.{most_actions, highest, actions}
 use Rattle.rules.specs.Free.{is_free, first_free, fresh_number, next_number}
+use Rattle.numbers.specs.Number.{number_left}
 use Rattle.rules.proofs.Laws.Ranges.{left_next, left_done}
 
 module _ (w : List ℕ) (a end : ℕ) where
@@ -26,14 +30,17 @@ module _ (w : List ℕ) (a end : ℕ) where
   lowest_done h = rw (left_done a end h)
 
 module _ (w : List ℕ) where
-  pub next_found : (n : ℕ) → 1 ≤ n → first_free w (actions w) ≡ n → next_number w ≡ n
+  pub found : (n : ℕ) → 1 ≤ n → first_free w (actions w) ≡ n → Some n ≡ number_left w
   unfolding next_number
-  next_found n one found = rw (found, ne_eqb n 0 (λ z. omega arith))
+  found n one lowest = rw (lowest, ne_eqb n 0 (λ z. omega arith), ne_eqb n 0 (λ z. omega arith))
 
-  pub next_fresh : first_free w (actions w) ≡ 0 → highest w < most_actions → next_number w ≡ highest w + 1
+  -- where none is free the next is fresh, if there is room
+  fresh :
+      (room : Bool) → ltb (highest w) most_actions ≡ room → first_free w (actions w) ≡ 0 →
+      then_some room (highest w + 1) ≡ number_left w
   unfolding next_number fresh_number
-  next_fresh none room = rw (none, lt-ltb (highest w) most_actions room)
+  fresh true room none = rw (none, room, ne_eqb (highest w + 1) 0 (λ z. omega arith))
+  fresh false full none = rw (none, full)
 
-  pub next_none : first_free w (actions w) ≡ 0 → most_actions ≤ highest w → next_number w ≡ 0
-  unfolding next_number fresh_number
-  next_none none full = rw (none, le-ltb (highest w) most_actions full)
+  pub not_found : first_free w (actions w) ≡ 0 → then_some (ltb (highest w) most_actions) (highest w + 1) ≡ number_left w
+  not_found none = fresh (ltb (highest w) most_actions) refl none

@@ -22,10 +22,7 @@ fn is_early(table: &[u64], m: u64, x: u64, k: u64) -> bool
     ensures { result ≡ (has_read table.now x k
         && ltb (read_time table.now (kind_of table.now m) x k) (end_time table.now m)) }
 {
-    if !has_read(table, x, k) {
-        return false;
-    }
-    read_before_end(table, x, m, k)
+    has_read(table, x, k) && read_before_end(table, x, m, k)
 }
 
 fn has_read_before(table: &[u64], m: u64, x: u64) -> bool
@@ -34,38 +31,25 @@ fn has_read_before(table: &[u64], m: u64, x: u64) -> bool
     ensures { result
         ≡ has_read_before table.now (kind_of table.now m) (end_time table.now m) x }
 {
-    for k in 0..ACCOUNTS {
-        if is_early(table, m, x, k) {
-            return true;
-        }
-    }
-    false
+    (0..ACCOUNTS).any(|k| is_early(table, m, x, k))
 }
 
 // The reads first: most actions have none from before m's end, and they cost no walk.
+#[tactic(auto, unfolding(rules::specs::Free::needs))]
 fn needs(table: &[u64], m: u64, x: u64) -> bool
     requires sound { Sound table.now }
     requires given { IsGiven table.now m }
     requires given_2 { IsGiven table.now x }
     ensures { result ≡ needs table.now m x }
 {
-    if !is_live(table, x) {
-        return false;
-    }
-    if !has_read_before(table, m, x) {
-        return false;
-    }
-    is_under(table, parent(table, m), x)
+    is_live(table, x) && has_read_before(table, m, x) && is_under(table, parent(table, m), x)
 }
 
 fn is_store_or_live(table: &[u64], p: u64) -> bool
     requires { HasRow table.now p }
     ensures { result ≡ is_store_or_live table.now p }
 {
-    if p == STORE {
-        return true;
-    }
-    is_live(table, p)
+    p == STORE || is_live(table, p)
 }
 
 // A live action needs the record m.
@@ -74,25 +58,14 @@ fn has_need(table: &[u64], m: u64) -> bool
     requires given { IsGiven table.now m }
     ensures { result ≡ any (needs table.now m) (actions table.now) }
 {
-    let last = highest(table);
-    for x in 1..last + 1 {
-        if needs(table, m, x) {
-            return true;
-        }
-    }
-    false
+    (1..highest(table) + 1).any(|x| needs(table, m, x))
 }
 
+#[tactic(auto, unfolding(rules::specs::Free::is_needed))]
 pub(crate) fn is_needed(table: &[u64], m: u64) -> bool
     requires sound { Sound table.now }
     requires given { IsGiven table.now m }
     ensures { result ≡ is_needed table.now m }
 {
-    if !has_ended(table, m) {
-        return false;
-    }
-    if !is_store_or_live(table, parent(table, m)) {
-        return false;
-    }
-    has_need(table, m)
+    has_ended(table, m) && is_store_or_live(table, parent(table, m)) && has_need(table, m)
 }

@@ -1,38 +1,26 @@
 -- Where an action stands in a queue, and what is asked of its entry: where no number stands there twice, it is asked at the
 -- action's first position. Assumes nothing.
 use Prim.Native.Nat.{ℕ, zero, suc, ◌+◌, ◌-◌, ◌≤◌, ◌<◌}
-use native.Mathlib.Nat.{add-suc, suc-add}
+use native.Mathlib.Nat.{add-suc, suc-add, add-sub_cancel}
 use native.Mathlib.Omega.{arith}
 use mathlib.Core.Path.{◌≡◌, refl, sym, ◌∙◌}
 use mathlib.Core.Logic.{◌≢◌}
-use mathlib.Core.Bool.{Bool, true, false, not, ◌&&◌, ◌||◌, or-false}
+use mathlib.Core.Bool.{Bool, true, false, not, cond, ◌&&◌, ◌||◌, or-false}
 use mathlib.Core.List.{List, map}
 use lib.Dec.{eqb}
+use Rattle.std.specs.Prelude.{Some, find}
 use borrow.Author.Tests.{eqb-true, ne_eqb}
 use Rattle.rules.specs.Range.{up_from, any}
 use Rattle.rules.specs.Queue.{queue_length, Entry, entry_at, is_of, queue, is_queued}
 use Rattle.rules.specs.Sound.{are_distinct, queue_numbers}
 use Rattle.rules.proofs.Laws.Tests.{and_left, not_both, false_of_not_true, cond_holds}
-use Rattle.rules.proofs.Laws.Ranges.{left_next, left_done}
 use Rattle.rules.proofs.Laws.Lists.{any_map, any_weaker}
 use Rattle.rules.proofs.Laws.Distinct.{distinct_parts}
 use Rattle.queue.specs.Line.{StandsOnce, first, stands_at, position_of}
+use Rattle.rows.specs.Row.{numbered}
+use Rattle.rows.proofs.Numbered.{found_at}
 
 -- ---- the first of a run's numbers of which f holds
-
-module _ (f : ℕ → Bool) (a end : ℕ) where
-  -- it is the first of what is left, or that one is passed over
-  pub first_left_here : a < end → f a ≡ true → first f (up_from a (end - a)) ≡ a
-  unfolding first
-  first_left_here h p = rw (left_next a end h, p)
-
-  pub first_left_next : a < end → f a ≡ false → first f (up_from a (end - a)) ≡ first f (up_from (a + 1) (end - (a + 1)))
-  unfolding first
-  first_left_next h p = rw (left_next a end h, p)
-
-  pub first_left_done : end ≤ a → first f (up_from a (end - a)) ≡ 0
-  unfolding first
-  first_left_done h = rw (left_done a end h)
 
 module _ (f : ℕ → Bool) where
   first_below : (a n : ℕ) → 1 ≤ a → first f (up_from a n) < a + n
@@ -49,6 +37,14 @@ module _ (f : ℕ → Bool) where
   first_holds a zero some = absurd (some refl)
   first_holds a (suc n) some =
       cond_holds (λ x. x ≢ 0 → f x ≡ true) (f a) (λ here _. here) (λ _. first_holds (suc a) n) some
+
+  find_first : (a n : ℕ) → 1 ≤ a → find f (up_from a n) ≡ numbered (first f (up_from a n))
+  unfolding first up_from
+  find_first a zero one = refl
+  find_first a (suc n) one =
+      cond_holds (λ x. cond (f a) (Some a) (find f (up_from (suc a) n)) ≡ numbered x) (f a)
+      (λ here. rw (here, ne_eqb a 0 (λ z. omega arith)))
+      (λ passed. rw passed (find_first (suc a) n (omega arith)))
 
   any_first : (a n : ℕ) → 1 ≤ a → any f (up_from a n) ≡ not (eqb (first f (up_from a n)) 0)
   unfolding first any up_from
@@ -69,12 +65,16 @@ unfolding up_from
 once_later w h a left once = (distinct_parts _ _ once).1
 
 module _ (w : List ℕ) (h n : ℕ) where
-  -- the positions from the head on, below an end
-  pub position_from_head : (end : ℕ) → end ≡ queue_length w h + 1 → position_of w h n ≡ first (stands_at w h n) (up_from 1 (end - 1))
-  position_from_head end behind = let all : end - 1 ≡ queue_length w h = omega arith in rw all
+  -- as the code finds it
+  pub found_first : find (stands_at w h n) (up_from 1 (queue_length w h + 1 - 1)) ≡ numbered (position_of w h n)
+  found_first = rw add-sub_cancel (find_first (stands_at w h n) 1 (queue_length w h) (omega arith))
 
   pub position_few : position_of w h n ≤ queue_length w h
   position_few = omega (arith, first_below (stands_at w h n) 1 (queue_length w h) (omega arith))
+
+  -- .. has a row
+  pub found_few : {i : ℕ} → Some i ≡ numbered (position_of w h n) → i ≤ queue_length w h
+  found_few e = rw (found_at e) at position_few
 
   pub queued_position : is_queued w h n ≡ not (eqb (position_of w h n) 0)
   unfolding is_queued queue

@@ -1,49 +1,48 @@
 // The changes of a queue: an action put at the tail, marked as ready, and taken out.
 ghost use Rattle.std.specs.Prelude.{◌≡◌};
-ghost use Rattle.rules.specs.Kind.{IsKind};
+ghost use Rattle.rules.specs.Action.{kind_number};
+ghost use Rattle.rules.specs.Settled.{verdict_word};
 ghost use Rattle.rules.specs.Queue.{entry_at, with_entry, with_tail, with_ready, without_below};
 ghost use Rattle.rows.specs.Row.{HasRow};
 ghost use Rattle.ancestry.specs.Ancestry.{LiveClimb};
 ghost use Rattle.queue.specs.Line.{HasLine, HasRoom, StandsOnce, AreKnown};
 
-use crate::find::{NO_POSITION, position_of};
+use crate::find::position_of;
 use ancestry::walk::is_aborted_by;
 use rows::entries::{
     entry_number, entry_readiness, entry_verdict, put_entry, queue_length, set_queue_length,
 };
-use rules::queue::{FIRST_POSITION, READY, UNREADY};
+use rules::action::Kind;
+use rules::queue::{FIRST_POSITION, READY, UNREADY, Verdict};
 
 // n at the tail, with the verdict that is settled, not ready.
-pub fn put_tail(table: &mut [u64], h: u64, n: u64, verdict: u64)
-    requires has_line { HasLine table.old h }
-    requires has_room { HasRoom table.old h }
-    ensures { table.new ≡ with_tail table.old h n verdict }
+pub fn put_tail(table: &mut [u64], h: Kind, n: u64, verdict: Verdict)
+    requires has_line { HasLine table.old (kind_number h) }
+    requires has_room { HasRoom table.old (kind_number h) }
+    ensures { table.new ≡ with_tail table.old (kind_number h) n (verdict_word verdict) }
 {
     let tail = queue_length(table, h) + 1;
-    put_entry(table, h, tail, n, verdict, UNREADY);
+    put_entry(table, h, tail, n, u64::from(verdict), UNREADY);
     set_queue_length(table, h, tail);
 }
 
 // The entry at n's first position is the only one where n stands once.
-pub fn mark_ready(table: &mut [u64], h: u64, n: u64)
-    requires has_line { HasLine table.old h }
-    requires stands_once { StandsOnce table.old h }
-    ensures { table.new ≡ with_ready table.old h n }
+pub fn mark_ready(table: &mut [u64], h: Kind, n: u64)
+    requires has_line { HasLine table.old (kind_number h) }
+    requires stands_once { StandsOnce table.old (kind_number h) }
+    ensures { table.new ≡ with_ready table.old (kind_number h) n }
 {
-    let i = position_of(table, h, n);
-    if i == NO_POSITION {
-        return;
+    if let Some(i) = position_of(table, h, n) {
+        let verdict = entry_verdict(table, h, i);
+        put_entry(table, h, i, n, verdict, READY);
     }
-    let verdict = entry_verdict(table, h, i);
-    put_entry(table, h, i, n, verdict, READY);
 }
 
 // The entry at one position put at another.
-fn move_entry(table: &mut [u64], h: u64, from: u64, to: u64)
+fn move_entry(table: &mut [u64], h: Kind, from: u64, to: u64)
     requires has_row { HasRow table.old from }
     requires has_row_2 { HasRow table.old to }
-    requires kind { IsKind h }
-    ensures { table.new ≡ with_entry table.old h to (entry_at table.old h from) }
+    ensures { table.new ≡ with_entry table.old (kind_number h) to (entry_at table.old (kind_number h) from) }
 {
     let number = entry_number(table, h, from);
     let verdict = entry_verdict(table, h, from);
@@ -52,11 +51,11 @@ fn move_entry(table: &mut [u64], h: u64, from: u64, to: u64)
 }
 
 // Those whom an abort of n reaches leave, and the others close up.
-pub fn take_out(table: &mut [u64], h: u64, n: u64)
-    requires has_line { HasLine table.old h }
+pub fn take_out(table: &mut [u64], h: Kind, n: u64)
+    requires has_line { HasLine table.old (kind_number h) }
     requires live_climb { LiveClimb table.old }
-    requires are_known { AreKnown table.old h }
-    ensures { table.new ≡ without_below table.old h n }
+    requires are_known { AreKnown table.old (kind_number h) }
+    ensures { table.new ≡ without_below table.old (kind_number h) n }
 {
     let tail = queue_length(table, h);
     let mut kept = 0;

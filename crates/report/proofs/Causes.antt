@@ -3,15 +3,19 @@
 use Prim.Native.Nat.{ℕ}
 use native.Mathlib.Decide.{ℕ_discrete}
 use native.Mathlib.Omega.{arith}
-use mathlib.Core.Path.{◌≡◌, refl, sym, ◌∙◌}
+use mathlib.Core.Path.{◌≡◌, refl, sym, ap, ◌∙◌}
 use mathlib.Core.Logic.{◌≢◌}
 use mathlib.Core.Bool.{Bool, true, false, cond, ◌||◌}
 use mathlib.Core.List.{List, [], ◌∷◌, ◌++◌}
 use borrow.Author.Tests.{eq-eqb, ne_eqb}
 use lib.ListN.{length}
+use Rattle.std.specs.Prelude.{Result, Ok, Err, IsErrAnd}
 use Rattle.rules.specs.Range.{any}
 use Rattle.rules.specs.Card.{base_length, charge_accounts}
 use Rattle.rules.specs.Cause.{Cause, first_cause, store_length_cause, is_store_length_wrong, sum_cause, store_causes}
+use Rattle.rules.specs.declared.refusal.Refusal.{Refusal}
+use Rattle.rules.specs.Refusal.{refusal_number, refusal_of}
+use Rattle.rules.proofs.Laws.Refusals.{never_none}
 use Rattle.rules.specs.Tree.{is_figure_outside, tree_causes, tree_cause}
 use Rattle.rules.proofs.Laws.Tests.{or_inr}
 use Rattle.causes.proofs.Grouped.{Accepted, stores_refused, stores_passed, stores_accepted}
@@ -35,6 +39,16 @@ module _ (w base shadow opening : List ℕ) where
       or_false : (b : Bool) → (b || false) ≡ b
       or_false true = refl
       or_false false = refl
+
+  -- a refusal that is passed up from the causes of every call
+  pub refused_by_stores :
+      {A : Type 0} (answer : Result A Refusal) (refusal : Refusal) → length opening ≡ base_length →
+      IsErrAnd answer (λ e. e ≡ refusal) → refusal_number refusal ≡ first_cause (store_causes w base shadow) →
+      refusal_of answer ≡ tree_cause w base shadow opening
+  refused_by_stores (Ok x) refusal opens passed asked = absurd passed
+  refused_by_stores (Err e) refusal opens passed asked =
+      ap refusal_number passed
+      ∙ sym (opening_right opens ∙ stores_refused w base shadow (figure_causes w) asked (never_none refusal))
 
   -- ---- none of them
 

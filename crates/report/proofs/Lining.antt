@@ -99,6 +99,59 @@ module _ (levels : ℕ) (w : List ℕ) (depth p : ℕ) where
     unfolding lines_from children_from
     lines_next within isnt = rw (filter_left_next (is_child_of w p) i (highest w + 1) (omega arith) isnt)
 
+  -- ---- and those of the children before i, put
+
+  -- so many lines were put behind those before, the lines of p's children before i, and what is left of all of them is those from i on
+  pub record ListedTo (first : List ℕ) (before : ℕ) (now : List ℕ) (next i : ℕ) : Type 0 where
+    pub so_far : List Line
+    pub begun : 1 ≤ i
+    pub put : IsLined w first before so_far now next
+    pub left : lines_from levels w depth p 1 ≡ so_far ++ lines_from levels w depth p i
+
+  pub listed_first : (first : List ℕ) (before : ℕ) → ListedTo first before first before 1
+  listed_first first before = record { so_far = []; begun = omega arith; put = lined_none w first before; left = refl }
+
+  module _ {first : List ℕ} {before : ℕ} {now : List ℕ} {next i : ℕ} (listed : ListedTo first before now next i) where
+    module _ (within : i ≤ highest w) where
+      pub listed_over : is_child_of w p i ≡ false → ListedTo first before now next (i + 1)
+      listed_over isnt =
+          record {
+            so_far = listed.so_far;
+            begun = omega arith;
+            put = listed.put;
+            left = listed.left ∙ ap (λ rest. listed.so_far ++ rest) (lines_next i within isnt);
+          }
+
+      module _ (is : is_child_of w p i ≡ true) where
+        left_here :
+            lines_from levels w depth p 1 ≡ listed.so_far ++ (action_lines levels w depth i ++ lines_from levels w depth p (i + 1))
+        left_here = listed.left ∙ ap (λ rest. listed.so_far ++ rest) (lines_here i within is)
+
+        pub room_listed :
+            HasLineRoom first before (lines_from levels w depth p 1) → HasLineRoom now next (action_lines levels w depth i)
+        room_listed all =
+            let behind = action_lines levels w depth i ++ lines_from levels w depth p (i + 1) in
+            let rest = room_then listed.so_far behind (rw left_here at all) now (lined_length w listed.put) next listed.put.counted in
+            room_first (action_lines levels w depth i) (lines_from levels w depth p (i + 1)) rest
+
+        pub listed_next :
+            {then : List ℕ} {after : ℕ} → IsLined w now next (action_lines levels w depth i) then after →
+            ListedTo first before then after (i + 1)
+        listed_next put =
+            record {
+              so_far = listed.so_far ++ action_lines levels w depth i;
+              begun = omega arith;
+              put = lined_both w listed.put put;
+              left = left_here ∙ sym (append_assoc listed.so_far (action_lines levels w depth i) (lines_from levels w depth p (i + 1)));
+            }
+
+    pub listed_last : highest w < i → IsLined w first before (lines_from levels w depth p 1) now next
+    listed_last over =
+        let all : lines_from levels w depth p 1 ≡ listed.so_far =
+        listed.left ∙ ap (λ rest. listed.so_far ++ rest) (lines_done i over) ∙ append-nil listed.so_far
+        in
+        rw all listed.put
+
 -- ---- the lines of an action: its own, and those of its children
 
 module _ (w : List ℕ) (depth n : ℕ) where

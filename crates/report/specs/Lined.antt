@@ -20,10 +20,6 @@ children_from w p i = filter (is_child_of w p) (up_from i (highest w + 1 - i))
 unfoldable pub lines_from : ℕ → List ℕ → ℕ → ℕ → ℕ → List Line
 lines_from levels w depth p i = flat_map (action_lines levels w depth) (children_from w p i)
 
--- i is the number of an action, or the one behind the last
-abbrev pub IsNext : List ℕ → ℕ → Type 0
-IsNext w i = (1 ≤ i) × (i ≤ highest w + 1)
-
 -- an action that lies so deep has so many levels below it at most
 abbrev pub HasLevels : ℕ → ℕ → Type 0
 HasLevels depth levels = depth + levels ≤ most_actions

@@ -37,9 +37,15 @@ pub(crate) fn put_block(table: &[u64], base: &[u8], opening: &[u8], report: &mut
         ≡ sets report.old block_place
         (flat_map (balance_words table.now base.now opening.now) charge_accounts) }
 {
-    let mut at = BLOCK_AT;
     for k in FIRST_CHARGE..ACCOUNTS {
-        put_balance(table, base, opening, report, at, k);
-        at += BALANCE_LENGTH;
+        let before = (k - FIRST_CHARGE) as usize;
+        put_balance(
+            table,
+            base,
+            opening,
+            report,
+            BLOCK_AT + BALANCE_LENGTH * before,
+            k,
+        );
     }
 }

@@ -32,9 +32,8 @@ pub(crate) fn put_figures(table: &[u64], report: &mut [u64], from: usize, n: u64
     ensures { report.new
         ≡ sets report.old from (map amount_word (figures_of table.now n)) }
 {
-    let mut at = from;
     for k in FIRST_CHARGE..ACCOUNTS {
-        put_account(table, report, at, n, k);
-        at += FIGURES;
+        let before = (k - FIRST_CHARGE) as usize;
+        put_account(table, report, from + FIGURES * before, n, k);
     }
 }

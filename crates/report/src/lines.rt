@@ -5,7 +5,7 @@ ghost use Rattle.rules.specs.Table.{is_child_of};
 ghost use Rattle.rules.specs.Tree.{line_length, line_words};
 ghost use Rattle.rows.specs.Row.{HasRow};
 ghost use Rattle.report.specs.Asked.{IsShown, HasLine, FiguresFit, HasRoomFor};
-ghost use Rattle.report.specs.Lined.{IsNext, HasLevels, HasLineRoom, line_at_depth, action_lines, lines_from, IsLined};
+ghost use Rattle.report.specs.Lined.{HasLevels, HasLineRoom, line_at_depth, action_lines, lines_from, IsLined};
 
 use crate::figures::put_figures;
 use rows::fields::{highest, parent, state};
@@ -54,34 +54,32 @@ fn put_action(
     if levels == 0 {
         return next;
     }
-    put_list(table, report, next, n, 1, depth + 1, levels - 1)
+    put_list(table, report, next, n, depth + 1, levels - 1)
 }
 
-// The lines of p's children from i on, each with those under it.
+// The lines of p's children, each with those under it.
 #[cycle(put_action_put_list)]
 pub(crate) fn put_list(
     table: &[u64],
     report: &mut [u64],
     lines: usize,
     p: u64,
-    i: u64,
     depth: u64,
     levels: u64,
 ) -> usize
     requires figures_fit { FiguresFit table.now }
     requires shown { IsShown table.now p }
-    requires next { IsNext table.now i }
     requires has_levels { HasLevels depth levels }
-    requires has_line_room { HasLineRoom report.old lines (lines_from levels table.now depth p i) }
+    requires has_line_room { HasLineRoom report.old lines (lines_from levels table.now depth p 1) }
     ensures { IsLined table.now report.old lines
-        (lines_from levels table.now depth p i) report.new result }
+        (lines_from levels table.now depth p 1) report.new result }
 {
-    if highest(table) < i {
-        return lines;
+    let last = highest(table);
+    let mut next = lines;
+    for i in 1..last + 1 {
+        if is_child(table, p, i) {
+            next = put_action(table, report, next, i, depth, levels);
+        }
     }
-    if !is_child(table, p, i) {
-        return put_list(table, report, lines, p, i + 1, depth, levels);
-    }
-    let next = put_action(table, report, lines, i, depth, levels);
-    put_list(table, report, next, p, i + 1, depth, levels)
+    next
 }

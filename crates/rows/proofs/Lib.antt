@@ -1,5 +1,5 @@
 -- Facts that the proofs on rows use.
-mod ByKind
 mod Joining
-mod RuleWords
+pub mod KindNumbers
+pub mod Numbered
 pub mod JoinedWords

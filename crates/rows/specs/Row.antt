@@ -1,5 +1,5 @@
 -- What the functions on rows ask of their callers. Assumes nothing.
-use Rattle.std.specs.Prelude.{ℕ, ◌+◌, ◌-◌, ◌≤◌, ◌≡◌, ◌≢◌, List, length}
+use Rattle.std.specs.Prelude.{ℕ, ◌+◌, ◌-◌, ◌≤◌, ◌≡◌, ◌≢◌, cond, List, eqb, length, Option, None, Some}
 use Rattle.rules.specs.Range.{up_from}
 use Rattle.rules.specs.Card.{account_count}
 use Rattle.rules.specs.Table.{width, table_length, most_actions, highest}
@@ -28,3 +28,7 @@ IsFirstAccount from = from ≤ account_count
 
 abbrev pub accounts_from : ℕ → List ℕ
 accounts_from from = up_from from (account_count - from)
+
+-- the number of an action or a position as the code holds it: none where it is 0
+abbrev pub numbered : ℕ → Option ℕ
+numbered n = cond (eqb n 0) None (Some n)

@@ -1,8 +1,8 @@
 -- RULES 1.6: times by kind as the code holds them, and what the functions on times ask of their callers. Assumes nothing.
-use Rattle.std.specs.Prelude.{ℕ, ◌≤◌, min, max, ◌≡◌, true, cond, List}
+use Rattle.std.specs.Prelude.{ℕ, ◌+◌, ◌^◌, ◌<◌, ◌≤◌, min, max, ◌≡◌, true, cond, List, eqb}
 use Rattle.rules.specs.Kind.{top_kind, sub_kind, kind_under}
 use Rattle.rules.specs.Table.{last_time, parent_of, kind_of, with_read, has_read, with_sub_time, read_time}
-use Rattle.rules.specs.Commit.{passes_read, joined_read, joined_time}
+use Rattle.rules.specs.Commit.{joined_read, joined_time}
 use Rattle.rows.specs.declared.times.Time.{Time}
 use Rattle.rows.specs.declared.times.Time.TheVariants.{Top, Sub}
 
@@ -32,25 +32,23 @@ sooner_read w h n k t = cond (has_read w n k) (min (read_time w h n k) t) t
 abbrev pub later_read : List ℕ → ℕ → ℕ → ℕ → ℕ → ℕ
 later_read w h n k t = cond (has_read w n k) (max (read_time w h n k) t) t
 
+-- account k's time of kind h put for n's read; a read entry is one more than the topaction time
+abbrev pub with_read_time : List ℕ → ℕ → ℕ → ℕ → ℕ → List ℕ
+with_read_time w h n k t = cond (eqb h top_kind) (with_read w n k (t + 1)) (with_sub_time w n k t)
+
 -- p's read of account k after the commit of its child n, both words
 abbrev pub with_joined_read : List ℕ → ℕ → ℕ → ℕ → List ℕ
 with_joined_read w n p k = with_sub_time (with_read w p k (joined_read w n p k)) p k (joined_time w n p k)
 
 -- ---- what is asked
 
--- action n is a topaction, or a subaction: its end time is of that kind
-abbrev pub IsTop : List ℕ → ℕ → Type 0
-IsTop w n = kind_of w n ≡ top_kind
+-- action n is of kind h, and so is its end time
+abbrev pub IsOfKind : ℕ → List ℕ → ℕ → Type 0
+IsOfKind h w n = kind_of w n ≡ h
 
-abbrev pub IsSub : List ℕ → ℕ → Type 0
-IsSub w n = kind_of w n ≡ sub_kind
-
--- the children of p are topactions, or subactions: their newest end times are of that kind
-abbrev pub IsParentOfTops : ℕ → Type 0
-IsParentOfTops p = kind_under p ≡ top_kind
-
-abbrev pub IsParentOfSubs : ℕ → Type 0
-IsParentOfSubs p = kind_under p ≡ sub_kind
+-- the children of p are of kind h, and so are their newest end times
+abbrev pub IsParentOf : ℕ → ℕ → Type 0
+IsParentOf h p = kind_under p ≡ h
 
 -- n is a child of p: its end time is of the kind of p's newest ones
 abbrev pub IsChild : List ℕ → ℕ → ℕ → Type 0
@@ -68,9 +66,9 @@ IsOfKindOf t w n = kind_in t ≡ kind_of w n
 abbrev pub HasRead : List ℕ → ℕ → ℕ → Type 0
 HasRead w n k = has_read w n k ≡ true
 
--- n's read of account k is passed to its parent p
-abbrev pub PassesRead : List ℕ → ℕ → ℕ → ℕ → Type 0
-PassesRead w n p k = passes_read w n p k ≡ true
+-- a word has room for a read's time of kind h
+abbrev pub HasRoom : ℕ → ℕ → Type 0
+HasRoom h t = h ≡ top_kind → t + 1 < 2 ^ 64
 
 -- RULES 4.5: a count that a word has room to raise
 abbrev pub CanCount : ℕ → Type 0

@@ -1,5 +1,6 @@
 // The fields of the head and of an action, by name, but for those that are times (`times`).
 ghost use Rattle.std.specs.Prelude.{◌≡◌};
+ghost use Rattle.rules.specs.Action.{kind_number, state_number};
 ghost use Rattle.rules.specs.Card.{IsAccount, IsCharge};
 ghost use Rattle.rules.specs.Kind.{kind_under};
 ghost use Rattle.rules.specs.Table.{highest, with_highest, is_forward, parent_of, with_parent, kind_of, state_of, with_state, has_read, has_written, has_card, write_entry, with_write, pending_word, with_pending, own_adds_word, with_own_adds, kept_word, with_kept, is_live, is_committed};
@@ -7,11 +8,11 @@ ghost use Rattle.rules.specs.Sound.{has_rule};
 ghost use Rattle.rows.specs.Row.{HasRow};
 
 use crate::words::{get, put};
+use rules::action::{Kind, State};
 use rules::store::FIRST_CHARGE;
 use rules::table::{
-    BACKWARD_WORD, COMMITTED, FORWARD_WORD, HEAD, HIGHEST_FIELD, KEPT_FIELDS, LIVE, NO_ENTRY,
-    OWN_ADDS_FIELDS, PARENT_FIELD, PENDING_FIELDS, READ_FIELDS, RULE_FIELD, STATE_FIELD, STORE,
-    SUB, TOP, WRITE_FIELDS,
+    BACKWARD_WORD, FORWARD_WORD, HEAD, HIGHEST_FIELD, KEPT_FIELDS, NO_ENTRY, OWN_ADDS_FIELDS,
+    PARENT_FIELD, PENDING_FIELDS, READ_FIELDS, RULE_FIELD, STATE_FIELD, STORE, WRITE_FIELDS,
 };
 
 pub fn highest(table: &[u64]) -> u64
@@ -39,10 +40,7 @@ pub fn has_rule(table: &[u64]) -> bool
     requires { HasRow table.now 0 }
     ensures { result ≡ has_rule table.now }
 {
-    if get(table, HEAD, RULE_FIELD) == BACKWARD_WORD {
-        return true;
-    }
-    is_forward(table)
+    get(table, HEAD, RULE_FIELD) == BACKWARD_WORD || is_forward(table)
 }
 
 pub fn parent(table: &[u64], n: u64) -> u64
@@ -60,19 +58,21 @@ pub fn set_parent(table: &mut [u64], n: u64, v: u64)
 }
 
 // The kind of p's children, where p is an action or the store.
-pub fn kind_under(p: u64) -> u64
-    ensures { result ≡ kind_under p }
+#[tactic(auto, unfolding(rules::specs::Kind::kind_under))]
+pub fn kind_under(p: u64) -> Kind
+    ensures { kind_number result ≡ kind_under p }
 {
-    if p == STORE { TOP } else { SUB }
+    if p == STORE { Kind::Top } else { Kind::Sub }
 }
 
-pub fn kind_of(table: &[u64], n: u64) -> u64
+pub fn kind_of(table: &[u64], n: u64) -> Kind
     requires { HasRow table.now n }
-    ensures { result ≡ kind_of table.now n }
+    ensures { kind_number result ≡ kind_of table.now n }
 {
     kind_under(parent(table, n))
 }
 
+// The word of its state: in a lent table any word may stand there.
 pub fn state(table: &[u64], n: u64) -> u64
     requires { HasRow table.now n }
     ensures { result ≡ state_of table.now n }
@@ -80,25 +80,25 @@ pub fn state(table: &[u64], n: u64) -> u64
     get(table, n, STATE_FIELD)
 }
 
-pub fn set_state(table: &mut [u64], n: u64, v: u64)
+pub fn set_state(table: &mut [u64], n: u64, v: State)
     requires { HasRow table.old n }
-    ensures { table.new ≡ with_state table.old n v }
+    ensures { table.new ≡ with_state table.old n (state_number v) }
 {
-    put(table, n, STATE_FIELD, v);
+    put(table, n, STATE_FIELD, u64::from(v));
 }
 
 pub fn is_live(table: &[u64], n: u64) -> bool
     requires { HasRow table.now n }
     ensures { result ≡ is_live table.now n }
 {
-    state(table, n) == LIVE
+    state(table, n) == u64::from(State::Live)
 }
 
 pub fn is_committed(table: &[u64], n: u64) -> bool
     requires { HasRow table.now n }
     ensures { result ≡ is_committed table.now n }
 {
-    state(table, n) == COMMITTED
+    state(table, n) == u64::from(State::Committed)
 }
 
 // The account is in the read set; the times that it was read at are told by `times`.
@@ -140,11 +140,11 @@ pub fn has_card(table: &[u64], n: u64, k: u64) -> bool
     requires account { IsAccount k }
     ensures { result ≡ has_card table.now n k }
 {
-    if k >= FIRST_CHARGE {
-        return false;
-    }
-    has_written(table, n, k)
+    k < FIRST_CHARGE && has_written(table, n, k)
 }
+
+// Three sums for each charge account, each read and put by a name of its own: the names differ in one field, and a call says which
+// sum it means.
 
 // The word of its pending sum.
 pub fn pending(table: &[u64], n: u64, k: u64) -> u64

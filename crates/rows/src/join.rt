@@ -7,8 +7,7 @@ ghost use Rattle.rows.specs.Row.{HasRow, AreTwo};
 ghost use Rattle.rows.specs.Times.{with_joined_read};
 
 use crate::fields::{has_card, has_read, has_written, set_write_entry, write_entry};
-use crate::times::sub::{joined_time, set_sub_read};
-use crate::times::top::{joined_entry, set_read_entry};
+use crate::times::of_kind::{SubTime, TopTime};
 use rules::store::ACCOUNTS;
 use rules::table::ENTERED;
 
@@ -19,13 +18,11 @@ fn passes_read(table: &[u64], n: u64, p: u64, k: u64) -> bool
     requires account { IsAccount k }
     ensures { result ≡ passes_read table.now n p k }
 {
-    if !has_read(table, n, k) {
-        return false;
-    }
-    !has_card(table, p, k)
+    has_read(table, n, k) && !has_card(table, p, k)
 }
 
-// n's read of the account joined to p's: both words are made before either is put, since the one says whether p has a read.
+// n's read of the account joined to p's: both times are told before either is put, since a read entry says whether p has a read.
+#[tactic(auto, using(crate::proofs::Joining::read_stays))]
 fn join_read(table: &mut [u64], n: u64, p: u64, k: u64)
     requires has_row { HasRow table.old n }
     requires has_row_2 { HasRow table.old p }
@@ -35,10 +32,10 @@ fn join_read(table: &mut [u64], n: u64, p: u64, k: u64)
     if !passes_read(table, n, p, k) {
         return;
     }
-    let entry = joined_entry(table, n, p, k);
-    let time = joined_time(table, n, p, k);
-    set_read_entry(table, p, k, entry);
-    set_sub_read(table, p, k, time);
+    let top = TopTime::read(table, n, k).sooner_read(table, p, k);
+    let sub = SubTime::read(table, n, k).sooner_read(table, p, k);
+    top.set_read(table, p, k);
+    sub.set_read(table, p, k);
 }
 
 fn joined_write(table: &[u64], n: u64, p: u64, k: u64) -> u64
@@ -81,6 +78,7 @@ fn join_writes(table: &mut [u64], n: u64, p: u64)
 }
 
 // n's sets joined to those of its parent p. The reads come first: they go by the cards that p has before it gets n's.
+#[tactic(auto, using(crate::proofs::Joining::both_joined))]
 pub fn join_sets(table: &mut [u64], n: u64, p: u64)
     requires has_row { HasRow table.old n }
     requires has_row_2 { HasRow table.old p }

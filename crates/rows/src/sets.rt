@@ -15,12 +15,7 @@ pub fn has_writes(table: &[u64], n: u64) -> bool
     requires { HasRow table.now n }
     ensures { result ≡ has_writes table.now n }
 {
-    for k in 0..ACCOUNTS {
-        if has_written(table, n, k) {
-            return true;
-        }
-    }
-    false
+    (0..ACCOUNTS).any(|k| has_written(table, n, k))
 }
 
 // Its end time counts: it has committed, and it has written.
@@ -28,10 +23,7 @@ pub fn has_ended(table: &[u64], n: u64) -> bool
     requires { HasRow table.now n }
     ensures { result ≡ has_end table.now n }
 {
-    if !is_committed(table, n) {
-        return false;
-    }
-    has_writes(table, n)
+    is_committed(table, n) && has_writes(table, n)
 }
 
 // The fields of the accounts from `from` on, where account k's is field first + k: nothing stands there.
@@ -47,6 +39,7 @@ fn clear_fields(table: &mut [u64], n: u64, first: u64, from: u64)
 }
 
 // A start's row: both sets empty, with no time left of a read, and no sum pending, whatever stood there.
+#[tactic(auto, unfolding(rules::specs::Table::with_sets, rules::specs::Table::with_both_sets, rules::specs::Table::with_reads, rules::specs::Card::accounts, rules::specs::Card::charge_accounts))]
 pub fn clear_sets(table: &mut [u64], n: u64)
     requires { HasRow table.old n }
     ensures { table.new ≡ with_sets table.old n (λ k. 0) (λ k. 0) (λ k. 0) (λ k. 0) }
@@ -58,6 +51,7 @@ pub fn clear_sets(table: &mut [u64], n: u64)
 }
 
 // A start's row: no own adds, whatever stood there.
+#[tactic(auto, unfolding(rules::specs::Table::without_adds, rules::specs::Card::charge_accounts))]
 pub fn clear_own_adds(table: &mut [u64], n: u64)
     requires { HasRow table.old n }
     ensures { table.new ≡ without_adds table.old n }
@@ -66,6 +60,7 @@ pub fn clear_own_adds(table: &mut [u64], n: u64)
 }
 
 // A start's row: nothing kept of children, whatever stood there.
+#[tactic(auto, unfolding(rules::specs::Table::without_kept, rules::specs::Card::charge_accounts))]
 pub fn clear_kept(table: &mut [u64], n: u64)
     requires { HasRow table.old n }
     ensures { table.new ≡ without_kept table.old n }
@@ -74,6 +69,7 @@ pub fn clear_kept(table: &mut [u64], n: u64)
 }
 
 // A start's row: no child has ended, whatever stood there.
+#[tactic(auto, unfolding(rules::specs::Table::without_newest, rules::specs::Card::accounts))]
 pub fn clear_newest(table: &mut [u64], n: u64)
     requires { HasRow table.old n }
     ensures { table.new ≡ without_newest table.old n }

@@ -1,29 +1,23 @@
-// Times of either kind. What is asked of an action's times goes by the action's kind to the one file or to the other; a time of
+// Times of either kind. What is asked of an action's times goes by the action's kind to the one type or to the other; a time of
 // one kind and a time of the other are nowhere compared.
 pub mod ends;
 pub mod newest;
-pub mod sub;
-pub mod top;
+pub mod of_kind;
 
 ghost use Rattle.std.specs.Prelude.{◌≡◌, ◌&&◌, ◌+◌, eqb, leb, ltb};
 ghost use Rattle.rules.specs.Card.{IsAccount};
-ghost use Rattle.rules.specs.Kind.{IsKind, top_kind};
+ghost use Rattle.rules.specs.Action.{kind_number};
+ghost use Rattle.rules.specs.Kind.{top_kind};
 ghost use Rattle.rules.specs.Table.{counter, with_counter, last_time, end_time, with_end_time, kind_of, read_time};
 ghost use Rattle.rules.specs.Step.{with_read_now};
 ghost use Rattle.rows.specs.Row.{HasRow};
 ghost use Rattle.rows.specs.Times.{kind_in, number_in, IsTime, sooner_read, later_read, AreOfOneKind, IsOfKindOf, HasRead, CanCount};
 
 use crate::fields::kind_of;
-use crate::times::sub::{
-    SubTime, after_sub, is_same_sub, later_sub_read, no_sub_end, set_sub_counter, set_sub_end,
-    set_sub_read, sooner_sub_read, sub_before, sub_counter, sub_end, sub_number, sub_read,
-};
-use crate::times::top::{
-    TopTime, after_top, is_same_top, later_top_read, no_top_end, set_top_counter, set_top_end,
-    set_top_read, sooner_top_read, top_before, top_counter, top_end, top_number, top_read,
-};
+use crate::times::of_kind::{SubTime, TopTime};
 use crate::words::put;
-use rules::table::{END_FIELD, FIRST_END, LAST_TIME, NO_END, TOP};
+use rules::action::Kind;
+use rules::table::{END_FIELD, FIRST_END, LAST_TIME, NO_END};
 
 #[derive(Clone, Copy)]
 pub enum Time {
@@ -32,34 +26,35 @@ pub enum Time {
 }
 
 // As a number, for an answer.
-pub fn number_of(t: Time) -> u64
-    ensures { result ≡ number_in t }
-{
-    match t {
-        Time::Top(t) => top_number(t),
-        Time::Sub(t) => sub_number(t),
+impl From<Time> for u64 {
+    ghost from_gives = { λ t number. number ≡ number_in t };
+
+    fn from(t: Time) -> u64 {
+        match t {
+            Time::Top(t) => u64::from(t),
+            Time::Sub(t) => u64::from(t),
+        }
     }
 }
 
-pub fn counter(table: &[u64], h: u64) -> Time
-    requires has_row { HasRow table.now 0 }
-    requires kind { IsKind h }
-    ensures { IsTime result h (counter table.now h) }
+pub fn counter(table: &[u64], h: Kind) -> Time
+    requires { HasRow table.now 0 }
+    ensures { IsTime result (kind_number h) (counter table.now (kind_number h)) }
 {
-    if h == TOP {
-        return Time::Top(top_counter(table));
+    match h {
+        Kind::Top => Time::Top(TopTime::counter(table)),
+        Kind::Sub => Time::Sub(SubTime::counter(table)),
     }
-    Time::Sub(sub_counter(table))
 }
 
 pub fn end_of(table: &[u64], n: u64) -> Time
     requires { HasRow table.now n }
     ensures { IsTime result (kind_of table.now n) (end_time table.now n) }
 {
-    if kind_of(table, n) == TOP {
-        return Time::Top(top_end(table, n));
+    match kind_of(table, n) {
+        Kind::Top => Time::Top(TopTime::end(table, n)),
+        Kind::Sub => Time::Sub(SubTime::end(table, n)),
     }
-    Time::Sub(sub_end(table, n))
 }
 
 pub fn ends_after(table: &[u64], t: Time, m: u64) -> bool
@@ -68,8 +63,8 @@ pub fn ends_after(table: &[u64], t: Time, m: u64) -> bool
     ensures { result ≡ ltb (number_in t) (end_time table.now m) }
 {
     match t {
-        Time::Top(t) => top_before(t, top_end(table, m)),
-        Time::Sub(t) => sub_before(t, sub_end(table, m)),
+        Time::Top(t) => t < TopTime::end(table, m),
+        Time::Sub(t) => t < SubTime::end(table, m),
     }
 }
 
@@ -80,10 +75,7 @@ pub fn ends_before(table: &[u64], a: u64, b: u64) -> bool
     requires are_of_one_kind { AreOfOneKind table.now a b }
     ensures { result ≡ ltb (end_time table.now a) (end_time table.now b) }
 {
-    if kind_of(table, a) == TOP {
-        return top_before(top_end(table, a), top_end(table, b));
-    }
-    sub_before(sub_end(table, a), sub_end(table, b))
+    ends_after(table, end_of(table, a), b)
 }
 
 pub fn end_together(table: &[u64], a: u64, b: u64) -> bool
@@ -92,10 +84,10 @@ pub fn end_together(table: &[u64], a: u64, b: u64) -> bool
     requires are_of_one_kind { AreOfOneKind table.now a b }
     ensures { result ≡ eqb (end_time table.now a) (end_time table.now b) }
 {
-    if kind_of(table, a) == TOP {
-        return is_same_top(top_end(table, a), top_end(table, b));
+    match kind_of(table, a) {
+        Kind::Top => TopTime::end(table, a) == TopTime::end(table, b),
+        Kind::Sub => SubTime::end(table, a) == SubTime::end(table, b),
     }
-    is_same_sub(sub_end(table, a), sub_end(table, b))
 }
 
 // n's read of the account is from before the end of m: the time of the read is that of m's kind.
@@ -107,10 +99,10 @@ pub fn read_before_end(table: &[u64], n: u64, m: u64, k: u64) -> bool
     ensures { result
         ≡ ltb (read_time table.now (kind_of table.now m) n k) (end_time table.now m) }
 {
-    if kind_of(table, m) == TOP {
-        return top_before(top_read(table, n, k), top_end(table, m));
+    match kind_of(table, m) {
+        Kind::Top => TopTime::read(table, n, k) < TopTime::end(table, m),
+        Kind::Sub => SubTime::read(table, n, k) < SubTime::end(table, m),
     }
-    sub_before(sub_read(table, n, k), sub_end(table, m))
 }
 
 // The smaller of a time and that of n's read of the account, of the same kind, and the larger; where there is no read, the time.
@@ -120,8 +112,8 @@ pub fn sooner_read(table: &[u64], n: u64, k: u64, t: Time) -> Time
     ensures { IsTime result (kind_in t) (sooner_read table.now (kind_in t) n k (number_in t)) }
 {
     match t {
-        Time::Top(t) => Time::Top(sooner_top_read(table, n, k, t)),
-        Time::Sub(t) => Time::Sub(sooner_sub_read(table, n, k, t)),
+        Time::Top(t) => Time::Top(t.sooner_read(table, n, k)),
+        Time::Sub(t) => Time::Sub(t.sooner_read(table, n, k)),
     }
 }
 
@@ -131,8 +123,8 @@ pub fn later_read(table: &[u64], n: u64, k: u64, t: Time) -> Time
     ensures { IsTime result (kind_in t) (later_read table.now (kind_in t) n k (number_in t)) }
 {
     match t {
-        Time::Top(t) => Time::Top(later_top_read(table, n, k, t)),
-        Time::Sub(t) => Time::Sub(later_sub_read(table, n, k, t)),
+        Time::Top(t) => Time::Top(t.later_read(table, n, k)),
+        Time::Sub(t) => Time::Sub(t.later_read(table, n, k)),
     }
 }
 
@@ -142,8 +134,8 @@ pub fn is_in_time(table: &[u64], t: Time) -> bool
     ensures { result ≡ leb (number_in t) (counter table.now (kind_in t)) }
 {
     match t {
-        Time::Top(t) => !top_before(top_counter(table), t),
-        Time::Sub(t) => !sub_before(sub_counter(table), t),
+        Time::Top(t) => t <= TopTime::counter(table),
+        Time::Sub(t) => t <= SubTime::counter(table),
     }
 }
 
@@ -154,22 +146,15 @@ pub fn ends_in_time(table: &[u64], n: u64) -> bool
         && leb (end_time table.now n) (counter table.now (kind_of table.now n))) }
 {
     let end = end_of(table, n);
-    if number_of(end) < FIRST_END {
-        return false;
-    }
-    is_in_time(table, end)
+    u64::from(end) >= FIRST_END && is_in_time(table, end)
 }
 
 // So many end times of kind h are left. The counter may be any word, so nothing is added to it.
-pub fn has_times_left(table: &[u64], h: u64, many: u64) -> bool
-    requires has_row { HasRow table.now 0 }
-    requires kind { IsKind h }
-    ensures { result ≡ leb (counter table.now h + many) last_time }
+pub fn has_times_left(table: &[u64], h: Kind, many: u64) -> bool
+    requires { HasRow table.now 0 }
+    ensures { result ≡ leb (counter table.now (kind_number h) + many) last_time }
 {
-    if LAST_TIME < many {
-        return false;
-    }
-    number_of(counter(table, h)) <= LAST_TIME - many
+    many <= LAST_TIME && u64::from(counter(table, h)) <= LAST_TIME - many
 }
 
 // The next time of the same kind, and the end time of an action of that kind that has none.
@@ -178,8 +163,8 @@ pub fn after(t: Time) -> Time
     ensures { IsTime result (kind_in t) (number_in t + 1) }
 {
     match t {
-        Time::Top(t) => Time::Top(after_top(t)),
-        Time::Sub(t) => Time::Sub(after_sub(t)),
+        Time::Top(t) => Time::Top(t.after()),
+        Time::Sub(t) => Time::Sub(t.after()),
     }
 }
 
@@ -187,8 +172,8 @@ pub fn no_end(t: Time) -> Time
     ensures { IsTime result (kind_in t) 0 }
 {
     match t {
-        Time::Top(_) => Time::Top(no_top_end()),
-        Time::Sub(_) => Time::Sub(no_sub_end()),
+        Time::Top(_) => Time::Top(TopTime::no_end()),
+        Time::Sub(_) => Time::Sub(SubTime::no_end()),
     }
 }
 
@@ -198,8 +183,8 @@ pub fn set_counter(table: &mut [u64], t: Time)
     ensures { table.new ≡ with_counter table.old (kind_in t) (number_in t) }
 {
     match t {
-        Time::Top(t) => set_top_counter(table, t),
-        Time::Sub(t) => set_sub_counter(table, t),
+        Time::Top(t) => t.set_counter(table),
+        Time::Sub(t) => t.set_counter(table),
     }
 }
 
@@ -209,8 +194,8 @@ pub fn set_end(table: &mut [u64], n: u64, t: Time)
     ensures { table.new ≡ with_end_time table.old n (number_in t) }
 {
     match t {
-        Time::Top(t) => set_top_end(table, n, t),
-        Time::Sub(t) => set_sub_end(table, n, t),
+        Time::Top(t) => t.set_end(table, n),
+        Time::Sub(t) => t.set_end(table, n),
     }
 }
 
@@ -229,8 +214,8 @@ pub fn set_read_now(table: &mut [u64], n: u64, k: u64)
     requires can_count { CanCount (counter table.old top_kind) }
     ensures { table.new ≡ with_read_now table.old n k }
 {
-    let top = top_counter(table);
-    let sub = sub_counter(table);
-    set_top_read(table, n, k, top);
-    set_sub_read(table, n, k, sub);
+    let top = TopTime::counter(table);
+    let sub = SubTime::counter(table);
+    top.set_read(table, n, k);
+    sub.set_read(table, n, k);
 }

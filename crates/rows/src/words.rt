@@ -6,6 +6,7 @@ ghost use Rattle.rows.specs.Row.{HasRow};
 
 use rules::table::WIDTH;
 
+#[tactic(auto, unfolding(rules::specs::Table::word))]
 pub fn get(table: &[u64], n: u64, f: u64) -> u64
     requires has_row { HasRow table.now n }
     requires field { IsField f }
@@ -14,6 +15,7 @@ pub fn get(table: &[u64], n: u64, f: u64) -> u64
     table[(WIDTH * n + f) as usize]
 }
 
+#[tactic(auto, unfolding(rules::specs::Table::with_word))]
 pub fn put(table: &mut [u64], n: u64, f: u64, v: u64)
     requires has_row { HasRow table.old n }
     requires field { IsField f }

@@ -2,6 +2,7 @@
 pub mod Tests
 pub mod Negated
 pub mod Ranges
+pub mod RangeTests
 pub mod Lists
 pub mod Each
 pub mod Puts
@@ -20,6 +21,8 @@ pub mod CopiedPart
 pub mod AnswerWords
 pub mod EventBytes
 pub mod CauseOrder
+pub mod Refusals
+pub mod Codes
 pub mod Allowed
 pub mod EventCases
 pub mod Freeing

@@ -1,7 +1,7 @@
 -- RULES 4.12 and 4.13: forward validation, by what the actions that are still live have read. Assumes nothing.
-use Rattle.std.specs.Prelude.{ℕ, ◌≤◌, ◌<◌, ◌≡◌, ◌≢◌, Bool, true, not, cond, ◌&&◌, List, [], ◌∷◌}
+use Rattle.std.specs.Prelude.{ℕ, ◌≤◌, ◌<◌, ◌≡◌, ◌≢◌, Bool, true, not, cond, ◌&&◌, List, [], ◌∷◌, Option, Some, None}
 use Rattle.rules.specs.declared.Found.{Found}
-use Rattle.rules.specs.declared.Found.TheVariants.{Nothing, At}
+use Rattle.rules.specs.Found.{found_at}
 use Rattle.rules.specs.Card.{account_count, accounts}
 use Rattle.rules.specs.Table.{parent_of, has_read, has_written, is_live, actions}
 use Rattle.rules.specs.Walk.{is_at_or_below, is_under}
@@ -19,30 +19,30 @@ abbrev pub is_read_ahead : List ℕ → ℕ → ℕ → ℕ → Bool
 is_read_ahead w n m k = has_written w n k && has_read w m k
 
 -- m and the first of the accounts ks that m has read and n has written
-unfoldable pub ahead_over : List ℕ → ℕ → ℕ → List ℕ → Found
-ahead_over w n m [] = Nothing
+unfoldable pub ahead_over : List ℕ → ℕ → ℕ → List ℕ → Option Found
+ahead_over w n m [] = None
 ahead_over w n m (k ∷ ks) =
     let rest = ahead_over w n m ks in
-    cond (is_read_ahead w n m k) (At m k) rest
+    cond (is_read_ahead w n m k) (found_at m k) rest
 
 -- m and the first account over which it is a reader ahead of n
-unfoldable pub ahead_by : List ℕ → ℕ → ℕ → Found
+unfoldable pub ahead_by : List ℕ → ℕ → ℕ → Option Found
 ahead_by w n m =
     let found = ahead_over w n m accounts in
-    cond (is_rival w n m) found Nothing
+    cond (is_rival w n m) found None
 
 -- the first that is found
-abbrev pub or_else : Found → Found → Found
-or_else Nothing later = later
-or_else (At m k) later = At m k
+abbrev pub or_else : Option Found → Option Found → Option Found
+or_else None later = later
+or_else (Some f) later = Some f
 
 -- the first of the actions ms that is a reader ahead of n, and its account
-unfoldable pub ahead_among : List ℕ → ℕ → List ℕ → Found
-ahead_among w n [] = Nothing
+unfoldable pub ahead_among : List ℕ → ℕ → List ℕ → Option Found
+ahead_among w n [] = None
 ahead_among w n (m ∷ ms) = or_else (ahead_by w n m) (ahead_among w n ms)
 
 -- RULES 4.13: the first reader ahead of action n, which its commit answers under rule 2: its number and the account
-unfoldable pub first_ahead : List ℕ → ℕ → Found
+unfoldable pub first_ahead : List ℕ → ℕ → Option Found
 first_ahead w n = ahead_among w n (actions w)
 
 -- ---- the same as facts (proofs/Clash/Rivals.antt and Readers.antt)

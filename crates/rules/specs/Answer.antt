@@ -4,6 +4,7 @@ use Rattle.std.proofs.Math.Option.{Option, none, some}
 use Rattle.rules.specs.declared.Answer.{Answer}
 use Rattle.rules.specs.declared.Answer.TheVariants.{Started, Read, ReadSum, Written, Added, Entered, Ready, JudgedFailed, Committed, Failed, Aborted, Refused}
 use Rattle.rules.specs.Amount.{amount_of}
+use Rattle.rules.specs.Refusal.{refusal_number}
 
 -- a word, as the ASCII codes of its letters, then numbers, and behind them a sum where there is one
 pub record Said : Type 0 where
@@ -26,7 +27,7 @@ said (Committed t) =
     record { word = 99 ∷ 111 ∷ 109 ∷ 109 ∷ 105 ∷ 116 ∷ 116 ∷ 101 ∷ 100 ∷ []; numbers = t ∷ []; sum = none }
 said (Failed t k) = record { word = 102 ∷ 97 ∷ 105 ∷ 108 ∷ 101 ∷ 100 ∷ []; numbers = t ∷ k ∷ []; sum = none }
 said (Aborted n left) = record { word = 97 ∷ 98 ∷ 111 ∷ 114 ∷ 116 ∷ 101 ∷ 100 ∷ []; numbers = n ∷ left ∷ []; sum = none }
-said (Refused c) = record { word = 114 ∷ 101 ∷ 102 ∷ 117 ∷ 115 ∷ 101 ∷ 100 ∷ []; numbers = c ∷ []; sum = none }
+said (Refused refusal) = record { word = 114 ∷ 101 ∷ 102 ∷ 117 ∷ 115 ∷ 101 ∷ 100 ∷ []; numbers = refusal_number refusal ∷ []; sum = none }
 
 -- whether it is that of a refused event
 abbrev pub is_refused : Answer → Bool

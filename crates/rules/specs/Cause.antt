@@ -1,5 +1,5 @@
 -- RULES 8: why an event is refused. Assumes nothing.
-use Rattle.std.specs.Prelude.{ℕ, ◌+◌, Bool, false, not, cond, ◌&&◌, ◌||◌, List, [], ◌∷◌, ◌++◌, leb, ltb, eqb, length, ℤ, ◌+ℤ◌}
+use Rattle.std.specs.Prelude.{ℕ, ◌+◌, Bool, false, not, cond, ◌&&◌, ◌||◌, List, [], ◌∷◌, ◌++◌, leb, ltb, eqb, length, ℤ, ◌+ℤ◌, Option, Some, None}
 use Rattle.rules.specs.Card.{account_count, is_charge, charge_accounts, card_length, base_length, shadow_length}
 use Rattle.rules.specs.Amount.{is_amount, is_addable, amount_in}
 use Rattle.rules.specs.Range.{any}
@@ -11,7 +11,6 @@ use Rattle.rules.specs.Queue.{queue_length, is_queued, is_queued_ready, is_waiti
 use Rattle.rules.specs.Event.{Event, start_code, judge_code, is_start, is_read, is_write, is_commit, is_abort, is_add, is_enter, is_judge}
 use Rattle.rules.specs.Nearest.{read_sum}
 use Rattle.rules.specs.declared.Found.{Found}
-use Rattle.rules.specs.declared.Found.TheVariants.{Nothing, At}
 use Rattle.rules.specs.Verdict.{commit_verdict}
 
 -- a cause: its number, and whether it applies
@@ -167,9 +166,9 @@ abbrev pub is_kept_outside : List ℕ → ℕ → ℕ → Bool
 is_kept_outside w n k = not (is_amount (kept_after w n (parent_of w n) k))
 
 -- one of them is, for one of the charge accounts; a commit that something is found against makes none
-unfoldable pub is_commit_outside : List ℕ → List ℕ → ℕ → Found → Bool
-is_commit_outside w base n Nothing = any (λ k. is_copy_outside w base n k || is_kept_outside w n k) charge_accounts
-is_commit_outside w base n (At t k) = false
+unfoldable pub is_commit_outside : List ℕ → List ℕ → ℕ → Option Found → Bool
+is_commit_outside w base n None = any (λ k. is_copy_outside w base n k || is_kept_outside w n k) charge_accounts
+is_commit_outside w base n (Some f) = false
 
 -- the sum that n's read of account k answers is outside; an account that is no charge account has none
 unfoldable pub is_read_outside : List ℕ → List ℕ → ℕ → ℕ → Bool

@@ -1,7 +1,7 @@
 -- RULES 4.2 and 4.3: clashes at a commit; document 01's term. Assumes nothing.
-use Rattle.std.specs.Prelude.{ℕ, Bool, true, false, cond, ◌&&◌, ◌||◌, List, [], ◌∷◌, ◌++◌, ltb, leb, eqb}
+use Rattle.std.specs.Prelude.{ℕ, Bool, true, false, cond, ◌&&◌, ◌||◌, List, [], ◌∷◌, ◌++◌, ltb, leb, eqb, Option, Some, None}
 use Rattle.rules.specs.declared.Found.{Found}
-use Rattle.rules.specs.declared.Found.TheVariants.{Nothing, At}
+use Rattle.rules.specs.Found.{found_at}
 use Rattle.rules.specs.Range.{filter}
 use Rattle.rules.specs.Card.{accounts}
 use Rattle.rules.specs.Table.{parent_of, kind_of, end_time, has_read, read_time, has_written, records}
@@ -33,20 +33,20 @@ clashes w n = clashes_with w n (records w (parent_of w n))
 abbrev pub is_before : ℕ → ℕ → ℕ → ℕ → Bool
 is_before t k u l = ltb t u || eqb t u && leb k l
 
-abbrev pub earlier : ℕ → ℕ → Found → Found
-earlier t k Nothing = At t k
-earlier t k (At u l) = cond (is_before t k u l) (At t k) (At u l)
+abbrev pub earlier : ℕ → ℕ → Option Found → Option Found
+earlier t k None = found_at t k
+earlier t k (Some f) = cond (is_before t k f.against f.account) (found_at t k) (Some f)
 
 -- the end time and the account of the first of these pairs
-unfoldable pub least : List ℕ → List Pair → Found
-least w [] = Nothing
+unfoldable pub least : List ℕ → List Pair → Option Found
+least w [] = None
 least w (c ∷ cs) = earlier (end_time w c.holder) c.account (least w cs)
 
 -- RULES 4.3: the first clash of action n, which its commit answers
-unfoldable pub first_clash : List ℕ → ℕ → Found
+unfoldable pub first_clash : List ℕ → ℕ → Option Found
 first_clash w n = least w (clashes w n)
 
 -- there is none
-abbrev pub is_clear : Found → Bool
-is_clear Nothing = true
-is_clear (At t k) = false
+abbrev pub is_clear : Option Found → Bool
+is_clear None = true
+is_clear (Some f) = false

@@ -4,6 +4,7 @@ use Rattle.rules.specs.declared.Answer.{Answer}
 use Rattle.rules.specs.declared.Answer.TheVariants.{Started, Read, ReadSum, Written, Added, Entered, Ready, JudgedFailed, Committed, Failed, Aborted, Refused}
 use Rattle.rules.specs.Card.{card_length}
 use Rattle.rules.specs.Event.{Event}
+use Rattle.rules.specs.Refusal.{refusal_number}
 
 -- RULES 9.1: the bytes of an event: code, number, account, card
 abbrev pub event_length : ℕ
@@ -79,7 +80,7 @@ abbrev pub judged_failed_kind : ℕ
 judged_failed_kind = 11
 
 abbrev pub words_of : Answer → List ℕ
-words_of (Refused c) = refused_kind ∷ c ∷ 0 ∷ 0 ∷ []
+words_of (Refused refusal) = refused_kind ∷ refusal_number refusal ∷ 0 ∷ 0 ∷ []
 words_of (Started n) = started_kind ∷ n ∷ 0 ∷ 0 ∷ []
 words_of (Read holder moves) = read_kind ∷ holder ∷ moves ∷ 0 ∷ []
 words_of Written = written_kind ∷ 0 ∷ 0 ∷ 0 ∷ []

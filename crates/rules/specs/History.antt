@@ -1,8 +1,7 @@
 -- RULES 4.9: the records that each parent has had, those that were dropped too. They are gathered along a list of events from who
 -- commits at each, and from what stands in its row then; what becomes of the row later makes no difference. Assumes nothing.
-use Rattle.std.specs.Prelude.{ℕ, ◌≡◌, Bool, true, cond, ◌&&◌, List, [], ◌∷◌, ◌++◌, ltb}
+use Rattle.std.specs.Prelude.{ℕ, ◌≡◌, Bool, true, cond, ◌&&◌, List, [], ◌∷◌, ◌++◌, ltb, Option, None}
 use Rattle.rules.specs.declared.Found.{Found}
-use Rattle.rules.specs.declared.Found.TheVariants.{Nothing}
 use Rattle.rules.specs.Range.{filter}
 use Rattle.rules.specs.Card.{accounts}
 use Rattle.rules.specs.Table.{parent_of, kind_of, end_time, has_read, read_time, has_written, has_writes, is_live}
@@ -80,13 +79,13 @@ abbrev pub is_had_clash : List ℕ → ℕ → Had → ℕ → Bool
 is_had_clash w n r k = r.wrote k && has_read w n k && ltb (read_time w (kind_of w n) n k) r.end
 
 -- of the pairs of t with each of these accounts, and of what was found, the first
-unfoldable pub earliest : ℕ → List ℕ → Found → Found
+unfoldable pub earliest : ℕ → List ℕ → Option Found → Option Found
 earliest t [] found = found
 earliest t (k ∷ ks) found = earlier t k (earliest t ks found)
 
 -- the end time and the account of n's first clash with these records
-unfoldable pub first_had_clash : List ℕ → ℕ → List Had → Found
-first_had_clash w n [] = Nothing
+unfoldable pub first_had_clash : List ℕ → ℕ → List Had → Option Found
+first_had_clash w n [] = None
 first_had_clash w n (r ∷ rs) = earliest r.end (filter (is_had_clash w n r) accounts) (first_had_clash w n rs)
 
 -- ---- the claim

@@ -1,10 +1,10 @@
 -- RULES 4.4: the search for the first clash; proofs/Clash/Searching.antt shows that it finds a live action's `first_clash`.
 -- Assumes nothing.
-use Rattle.std.specs.Prelude.{ℕ, zero, suc, Bool, cond, ◌&&◌, ◌||◌, List, [], ◌∷◌, ltb, eqb}
+use Rattle.std.specs.Prelude.{ℕ, zero, suc, Bool, cond, ◌&&◌, ◌||◌, List, [], ◌∷◌, ltb, eqb, Option, None}
 use Rattle.rules.specs.Card.{accounts}
 use Rattle.rules.specs.Table.{most_actions, parent_of, end_time, records}
 use Rattle.rules.specs.declared.Found.{Found}
-use Rattle.rules.specs.declared.Found.TheVariants.{Nothing, At}
+use Rattle.rules.specs.Found.{found_at}
 use Rattle.rules.specs.Clash.{is_clash}
 
 -- m ends after t, and sooner than the action `next` where that is one
@@ -19,19 +19,19 @@ next_after w t (m ∷ ms) =
     cond (is_sooner w t m next) m next
 
 -- the first of the accounts ks at which n clashes with record m; else what `rest` finds
-unfoldable pub search_accounts : List ℕ → ℕ → ℕ → Found → List ℕ → Found
+unfoldable pub search_accounts : List ℕ → ℕ → ℕ → Option Found → List ℕ → Option Found
 search_accounts w n m rest [] = rest
 search_accounts w n m rest (k ∷ ks) =
     let later = search_accounts w n m rest ks in
-    cond (is_clash w n m k) (At (end_time w m) k) later
+    cond (is_clash w n m k) (found_at (end_time w m) k) later
 
 -- the records with end times above t, by rising end time; the first number bounds how many there are
-unfoldable pub search_records : List ℕ → ℕ → ℕ → ℕ → Found
-search_records w n zero t = Nothing
+unfoldable pub search_records : List ℕ → ℕ → ℕ → ℕ → Option Found
+search_records w n zero t = None
 search_records w n (suc left) t =
     let m = next_after w t (records w (parent_of w n)) in
     let here = search_accounts w n m (search_records w n left (end_time w m)) accounts in
-    cond (eqb m 0) Nothing here
+    cond (eqb m 0) None here
 
-unfoldable pub search : List ℕ → ℕ → Found
+unfoldable pub search : List ℕ → ℕ → Option Found
 search w n = search_records w n most_actions 0

@@ -1,5 +1,5 @@
 -- RULES 2 and 4: what each event answers and leaves; an event of any kind is `step`. Assumes nothing.
-use Rattle.std.specs.Prelude.{ℕ, zero, suc, ◌+◌, max, Bool, true, false, cond, ◌||◌, List, [], ◌∷◌, ◌++◌, eqb, ℤ, ◌+ℤ◌}
+use Rattle.std.specs.Prelude.{ℕ, zero, suc, ◌+◌, max, Bool, true, false, cond, ◌||◌, List, [], ◌∷◌, ◌++◌, eqb, ℤ, ◌+ℤ◌, Option, Some, None}
 use Rattle.rules.specs.declared.Answer.{Answer}
 use Rattle.rules.specs.declared.Answer.TheVariants.{Started, Read, ReadSum, Written, Added, Entered, Ready, JudgedFailed, Committed, Failed, Aborted, Refused}
 use Rattle.rules.specs.Ledger.{Ledger, ledger_of, with_table}
@@ -16,8 +16,8 @@ use Rattle.rules.specs.Commit.{commit_time, committed_under}
 use Rattle.rules.specs.Cause.{is_commit_outside, cause_of}
 use Rattle.rules.specs.Nearest.{version, read_sum}
 use Rattle.rules.specs.declared.Found.{Found}
-use Rattle.rules.specs.declared.Found.TheVariants.{Nothing, At}
 use Rattle.rules.specs.Verdict.{commit_verdict, verdict_of}
+use Rattle.rules.specs.Refusal.{refusal_numbered}
 
 -- what an event answers and leaves
 pub record Outcome : Type 0 where
@@ -98,10 +98,10 @@ abbrev pub failed_ledger : Ledger → ℕ → Ledger
 failed_ledger s n = with_table s (with_state s.table n aborted)
 
 -- by whether something was found against it
-unfoldable pub judged : Ledger → ℕ → Found → Outcome
-judged s n Nothing =
+unfoldable pub judged : Ledger → ℕ → Option Found → Outcome
+judged s n None =
     record { answer = Committed (commit_time s.table n); after = committed_under s n (parent_of s.table n) }
-judged s n (At t k) = record { answer = Failed t k; after = failed_ledger s n }
+judged s n (Some f) = record { answer = Failed f.against f.account; after = failed_ledger s n }
 
 unfoldable pub commit : Ledger → ℕ → Outcome
 commit s n = judged s n (commit_verdict s.table n)
@@ -130,7 +130,7 @@ abbrev pub head_out : ℕ → Ledger → Ledger
 head_out h s = taken_out s h (head_in h s)
 
 abbrev pub is_head_outside : ℕ → Ledger → Bool
-is_head_outside h s = is_commit_outside (head_out h s).table (head_out h s).base (head_in h s) Nothing
+is_head_outside h s = is_commit_outside (head_out h s).table (head_out h s).base (head_in h s) None
 
 -- the ledger when it has left
 abbrev pub head_left : ℕ → Ledger → Ledger
@@ -242,7 +242,7 @@ act s e =
 unfoldable pub step : Ledger → Event → Outcome
 step s e =
     let cause = cause_of s.table s.base s.shadow e in
-    cond (eqb cause 0) (act s e) (record { answer = Refused cause; after = s })
+    cond (eqb cause 0) (act s e) (record { answer = Refused (refusal_numbered cause); after = s })
 
 -- ---- RULES 6.1: who commits by leaving a queue at an event, in the order of leaving
 

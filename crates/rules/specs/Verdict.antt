@@ -1,6 +1,6 @@
 -- What is found against an action when it asks to commit, by the table's rule; and RULES 4.7: the verdict of one that enters its
 -- queue, settled there and then. Assumes nothing.
-use Rattle.std.specs.Prelude.{ℕ, Bool, not, cond, ◌&&◌, List, eqb}
+use Rattle.std.specs.Prelude.{Option, ℕ, Bool, not, cond, ◌&&◌, List, eqb}
 use Rattle.rules.specs.Range.{any}
 use Rattle.rules.specs.Card.{accounts}
 use Rattle.rules.specs.declared.Found.{Found}
@@ -11,7 +11,7 @@ use Rattle.rules.specs.Ahead.{is_read_ahead, first_ahead}
 
 -- RULES 4.5 and 4.6: what n's commit is judged by: under rule 1 its first clash, under rule 2 the first reader ahead of it. Under
 -- rule 1 the first number is an end time, under rule 2 an action.
-unfoldable pub commit_verdict : List ℕ → ℕ → Found
+unfoldable pub commit_verdict : List ℕ → ℕ → Option Found
 commit_verdict w n =
     let clash = first_clash w n in
     let ahead = first_ahead w n in

@@ -3,13 +3,17 @@
 // The definitions of specs/ are the rules themselves; nothing here computes.
 #![tactic(auto)]
 
+use crate::refusal::Refusal;
+
+pub mod action;
 pub mod amount;
-pub mod cause;
 pub mod day;
 pub mod event;
 pub mod kind;
 pub mod queue;
+pub mod refusal;
 pub mod report;
+pub mod rule;
 pub mod store;
 pub mod table;
 
@@ -35,8 +39,7 @@ pub enum Answer {
     Failed(u64, u64),
     // how many actions became aborted, and how many then left the two queues
     Aborted(u64, u64),
-    // the number of the cause
-    Refused(u64),
+    Refused(Refusal),
 }
 
 // RULES 3.1: the nearest version of an account, seen from an action.
@@ -50,8 +53,8 @@ pub struct Version {
 
 // RULES 4: what is found against an action that asks to commit, by the table's rule.
 #[derive(Clone, Copy)]
-pub enum Found {
-    Nothing,
-    // under rule 1 the first clash, its end time and its account; under rule 2 the first reader ahead, its number and the account
-    At(u64, u64),
+pub struct Found {
+    // under rule 1 the end time of the first clash, under rule 2 the number of the first reader ahead
+    pub against: u64,
+    pub account: u64,
 }

@@ -1,4 +1,6 @@
 // RULES 1.7: the table's words. Row 0 is the head, row n is action n.
+use crate::rule::Rule;
+
 pub const MOST_ACTIONS: u64 = 64;
 
 pub const WIDTH: u64 = 161;
@@ -10,16 +12,6 @@ pub const STORE: u64 = 0;
 
 pub const HEAD: u64 = 0;
 
-// The kinds of action: topactions, and all others. The words of a counter and of a queue stand by the kind's number.
-pub const TOP: u64 = 0;
-
-pub const SUB: u64 = 1;
-
-// The rules by which a table may judge commits: backward and forward validation.
-pub const BACKWARD_RULE: u64 = 1;
-
-pub const FORWARD_RULE: u64 = 2;
-
 // Words of the head.
 pub const HIGHEST_FIELD: u64 = 0;
 
@@ -28,9 +20,9 @@ pub const COUNTER_FIELDS: u64 = 1;
 // RULES 1.12: the rule by which the table judges commits. Its word is the rule less 1, so that a table of zeros has the first.
 pub const RULE_FIELD: u64 = 5;
 
-pub const BACKWARD_WORD: u64 = BACKWARD_RULE - 1;
+pub const BACKWARD_WORD: u64 = Rule::Backward as u64 - 1;
 
-pub const FORWARD_WORD: u64 = FORWARD_RULE - 1;
+pub const FORWARD_WORD: u64 = Rule::Forward as u64 - 1;
 
 // Words of an action; a read set and a write set have one for each account, from here on.
 pub const PARENT_FIELD: u64 = 0;
@@ -76,10 +68,3 @@ pub const FIRST_END: u64 = 1;
 
 // The last that one can have.
 pub const LAST_TIME: u64 = 4000000000;
-
-// States.
-pub const LIVE: u64 = 1;
-
-pub const COMMITTED: u64 = 2;
-
-pub const ABORTED: u64 = 3;

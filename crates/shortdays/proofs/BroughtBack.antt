@@ -38,13 +38,17 @@ module _
   unfolding run_list
   opening_ran = rw list_runs
 
+  opening_taken : (run_list (opening_under rule) events buffer).cause ≡ 0
+  unfolding run_list
+  opening_taken = rw list_runs
+
   -- from what opening, clearing and the list call leave
   pub brought_back :
       (given : Ledger) → length given.table ≡ table_length → StoresFit given.base given.shadow →
       {table base shadow words : List ℕ} {now : Ledger} {cause : ℕ} →
       table ≡ open_table given.table rule → base ≡ replicate (length given.base) 0 → shadow ≡ replicate (length given.shadow) 0 →
       listed_of cause now words ≡ run_list (ledger_of table base shadow) events buffer →
-      now ≡ (run (opening_under rule) (events_in events)).after
+      (now ≡ (run (opening_under rule) (events_in events)).after) × (cause ≡ 0)
   brought_back given long fits {table} {base} {shadow} {now = now} is_table is_base is_shadow listed =
       let opened = rw (is_table, eq-eqb _ table_length long, is_base, is_shadow, fits.base_fits, fits.shadow_fits) at listed in
-      ap (λ (l : Listed). l.after) opened ∙ opening_ran
+      (ap (λ (l : Listed). l.after) opened ∙ opening_ran, ap (λ (l : Listed). l.cause) opened ∙ opening_taken)

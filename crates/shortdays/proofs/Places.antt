@@ -10,6 +10,7 @@ use mathlib.Core.List.{List, [], ◌∷◌, ◌++◌, map, append_assoc, append-
 use lib.ListN.{length, take, get_or, length-append, length-map, get_or-append}
 use lib.Seq.{get_or-append-add}
 use borrow.Author.Tests.{ne_eqb}
+use Rattle.std.specs.Prelude.{Ok, Err}
 use Rattle.rules.specs.Event.{Event}
 use Rattle.rules.specs.Ledger.{Ledger}
 use Rattle.rules.specs.Encoding.{event_length, bytes_of_event, bytes_of_events}
@@ -20,10 +21,8 @@ use Rattle.rules.proofs.Laws.EventBytes.{IsWhole}
 use Rattle.rules.proofs.Demand.Proper.{Proper}
 use Rattle.rules.proofs.Demand.ProperSteps.{same_cause}
 use Rattle.enumeration.specs.Lists.{candidate_count, candidate, beginning_by, beginning, beginning_from, lists}
-use Rattle.shortdays.specs.declared.search.Sought.{Sought}
-use Rattle.shortdays.specs.declared.search.Sought.TheVariants.{Found, Past}
 use Rattle.shortdays.specs.Written.{with_event}
-use Rattle.shortdays.specs.Search.{IsFound, IsPast, IsSought}
+use Rattle.shortdays.specs.Search.{IsFound, IsPast, Sought, IsSought}
 use Rattle.shortdays.proofs.Standing.{written_before, written_up_to, fewer_kept}
 
 -- ---- the lists that begin with an event
@@ -142,7 +141,7 @@ module _ (some more : List (List Event)) {i p : ℕ} (left : ℕ) {s t : Ledger}
   past_among :
       {j : ℕ} (u : Ledger) (after : List ℕ) (r : Sought) → IsPast some i j p s t list mid →
       IsSought more j p left t u mid after r → IsSought (some ++ more) i p left s u list after r
-  past_among {j} u after Found past found =
+  past_among {j} u after (Ok none) past found =
       let there : get_or (some ++ more) i [] ≡ get_or more j [] =
       ap (λ n. get_or (some ++ more) n []) past.beyond ∙ get_or-append-add some more j [] in
       record {
@@ -150,7 +149,7 @@ module _ (some more : List (List Event)) {i p : ℕ} (left : ℕ) {s t : Ledger}
         written = rw there (found.written ∙ ap (λ bytes. bytes ++ bytes_of_events (get_or more j [])) past.kept);
         led = rw there (found.led ∙ ap (λ (from : Ledger). (run from (take (left - 1) (get_or more j []))).after) past.back);
       }
-  past_among u after (Past k) past further =
+  past_among u after (Err k) past further =
       record {
         beyond = rw (length-append some more) (omega (arith, past.beyond, further.beyond));
         kept = further.kept ∙ past.kept;

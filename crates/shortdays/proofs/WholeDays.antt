@@ -5,12 +5,15 @@ use native.Mathlib.Omega.{arith}
 use native.Mathlib.Nat.{zero-add}
 use mathlib.Core.Path.{◌≡◌, refl, sym, ap, ◌∙◌}
 use mathlib.Core.Logic.{◌≢◌}
-use mathlib.Core.Bool.{not}
+use mathlib.Core.Bool.{Bool, true, false, not}
 use mathlib.Core.List.{List, [], ◌++◌}
 use lib.ListN.{length, take, drop, replicate}
-use lib.Seq.{length-take-le}
 use borrow.Author.Tests.{ne_eqb, lt-ltb, le-ltb}
+use Rattle.std.specs.Prelude.{Result, Ok, Err, IsErrAnd}
 use Rattle.rules.specs.Range.{all}
+use Rattle.rules.specs.declared.refusal.Refusal.{Refusal}
+use Rattle.rules.specs.Refusal.{refusal_number}
+use Rattle.rules.proofs.Laws.Refusals.{never_none, numbered_back}
 use Rattle.rules.specs.Card.{base_length, shadow_length}
 use Rattle.rules.specs.Table.{table_length, is_rule}
 use Rattle.rules.specs.Ledger.{Ledger, ledger_of}
@@ -20,14 +23,10 @@ use Rattle.rules.specs.Serial.Demand.{opening_under}
 use Rattle.rules.proofs.Laws.Tests.{ltb_fails}
 use Rattle.rules.proofs.Laws.Allowed.{not_given}
 use Rattle.table.specs.Open.{open_table}
-use Rattle.text.specs.Put.{put_at}
 use Rattle.enumeration.specs.ShortDay.{most_short}
 use Rattle.enumeration.specs.Lists.{candidate_count, beginning_from, lists, short_days}
-use Rattle.shortdays.specs.declared.search.Sought.{Sought}
-use Rattle.shortdays.specs.declared.search.Sought.TheVariants.{Found, Past}
-use Rattle.shortdays.specs.declared.day.ShortDay.TheVariants.{Given, Nothing, Refused}
 use Rattle.shortdays.specs.Written.{IsShortLong}
-use Rattle.shortdays.specs.Search.{Searching, IsSought, IsDayFound, IsDaySought}
+use Rattle.shortdays.specs.Search.{Searching, Sought, IsSought, IsDayFound, IsDaySought}
 use Rattle.shortdays.specs.Call.{short_cause, short_answer, short_list}
 use Rattle.shortdays.proofs.Places.{sought_in_all}
 
@@ -65,11 +64,11 @@ pub day_sought :
     IsSought (beginning_from (lists (k - 1) (0 + 1)) 0 s (candidate_count - 0) 0) place 0 k s t list after r →
     IsDaySought (short_days k rule) place k after r
 unfolding short_days
-day_sought k rule place s t list after Found some is sought =
-    let found = sought_in_all k 0 place (opening_under rule) t list after Found some is refl refl sought in
+day_sought k rule place s t list after (Ok none) some is sought =
+    let found = sought_in_all k 0 place (opening_under rule) t list after (Ok none) some is refl refl sought in
     record { within = found.within; written = ap (λ n. take (event_length * n) after) (sym (zero-add k)) ∙ found.written }
-day_sought k rule place s t list after (Past j) some is sought =
-    (sought_in_all k 0 place (opening_under rule) t list after (Past j) some is refl refl sought).beyond
+day_sought k rule place s t list after (Err j) some is sought =
+    (sought_in_all k 0 place (opening_under rule) t list after (Err j) some is refl refl sought).beyond
 
 -- ---- what the call answers and leaves
 
@@ -78,28 +77,26 @@ few_events k rule none = (ltb_fails most_short k).0 (not_given _ _ _ (not_given 
 
 module _ (k rule place : ℕ) (buffer : List ℕ) where
   pub day_refused :
-      {cause : ℕ} → cause ≡ short_cause k rule → cause ≢ 0 →
-      (Refused cause ≡ short_answer k rule place) × (buffer ≡ short_list k rule place buffer)
+      (answer : Result Bool Refusal) (refusal : Refusal) → IsErrAnd answer (λ e. e ≡ refusal) →
+      refusal_number refusal ≡ short_cause k rule →
+      (answer ≡ short_answer k rule place) × (buffer ≡ short_list k rule place buffer)
   unfolding short_answer short_list
-  day_refused {cause} is given = rw (← is, ne_eqb cause 0 given) (refl, refl)
+  day_refused (Ok placed) refusal passed asked = absurd passed
+  day_refused (Err e) refusal passed asked =
+      rw (passed, ← asked, ne_eqb (refusal_number refusal) 0 (never_none refusal), numbered_back refusal) (refl, refl)
 
   module _ (none : short_cause k rule ≡ 0) where
     pub day_given :
-        (found : List ℕ) → event_length * k ≤ length found → IsDayFound (short_days k rule) place k found →
-        {list : List ℕ} → list ≡ put_at buffer 0 (take (event_length * k) found) →
-        (Given ≡ short_answer k rule place) × (list ≡ short_list k rule place buffer)
-    unfolding short_answer short_list put_at
-    day_given found room h is =
-        let long = zero-add (length (take (event_length * k) found)) ∙ length-take-le (event_length * k) found room in
-        rw (none, lt-ltb place (length (short_days k rule)) h.within) (
-          refl,
-          is
-              ∙ ap (λ n. take (event_length * k) found ++ drop n buffer) long
-              ∙ ap (λ bytes. bytes ++ drop (event_length * k) buffer) h.written,
-        )
+        (found : List ℕ) → IsDayFound (short_days k rule) place k found →
+        {list : List ℕ} → list ≡ take (event_length * k) found ++ drop (event_length * k) buffer →
+        (Ok true ≡ short_answer k rule place) × (list ≡ short_list k rule place buffer)
+    unfolding short_answer short_list
+    day_given found h is =
+        rw (none, lt-ltb place (length (short_days k rule)) h.within)
+        (refl, is ∙ ap (λ bytes. bytes ++ drop (event_length * k) buffer) h.written)
 
     pub day_none :
         (j : ℕ) → place ≡ length (short_days k rule) + j →
-        (Nothing ≡ short_answer k rule place) × (buffer ≡ short_list k rule place buffer)
+        (Ok false ≡ short_answer k rule place) × (buffer ≡ short_list k rule place buffer)
     unfolding short_answer short_list
     day_none j beyond = rw (none, le-ltb place (length (short_days k rule)) (omega (arith, beyond))) (refl, refl)

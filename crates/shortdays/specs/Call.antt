@@ -1,12 +1,12 @@
 -- RULES 15.4: the short day at a place, in one call. Assumes nothing.
-use Rattle.std.specs.Prelude.{ℕ, ◌*◌, Bool, not, cond, ◌&&◌, List, [], ◌∷◌, ◌++◌, eqb, ltb, length, drop, get_or}
+use Rattle.std.specs.Prelude.{ℕ, ◌*◌, Bool, not, cond, ◌&&◌, List, [], ◌∷◌, ◌++◌, eqb, ltb, length, drop, get_or, Result, Ok, Err}
+use Rattle.rules.specs.declared.refusal.Refusal.{Refusal}
+use Rattle.rules.specs.Refusal.{refusal_numbered}
 use Rattle.rules.specs.Table.{is_rule}
 use Rattle.rules.specs.Encoding.{event_length, bytes_of_events}
 use Rattle.rules.specs.Cause.{rule_cause, long_day_cause, first_cause}
 use Rattle.enumeration.specs.ShortDay.{most_short}
 use Rattle.enumeration.specs.Lists.{short_days}
-use Rattle.shortdays.specs.declared.day.ShortDay.{ShortDay}
-use Rattle.shortdays.specs.declared.day.ShortDay.TheVariants.{Given, Nothing, Refused}
 
 -- why the call is refused, 0 where it is not
 abbrev pub short_cause : ℕ → ℕ → ℕ
@@ -18,10 +18,11 @@ short_cause k rule =
 abbrev pub is_placed : ℕ → ℕ → ℕ → Bool
 is_placed k rule place = ltb place (length (short_days k rule))
 
-unfoldable pub short_answer : ℕ → ℕ → ℕ → ShortDay
+-- what the call answers: whether there is one, or why it is refused
+unfoldable pub short_answer : ℕ → ℕ → ℕ → Result Bool Refusal
 short_answer k rule place =
     let cause = short_cause k rule in
-    cond (eqb cause 0) (cond (is_placed k rule place) Given Nothing) (Refused cause)
+    cond (eqb cause 0) (Ok (is_placed k rule place)) (Err (refusal_numbered cause))
 
 -- the buffer afterwards: its first bytes are those of the list that is given, and all others stay
 unfoldable pub short_list : ℕ → ℕ → ℕ → List ℕ → List ℕ

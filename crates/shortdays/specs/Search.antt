@@ -1,5 +1,5 @@
 -- RULES 15.3: the search for the list at a place: where it stands, and what it gives back. Assumes nothing.
-use Rattle.std.specs.Prelude.{ℕ, ◌+◌, ◌-◌, ◌*◌, ◌≤◌, ◌<◌, ◌≡◌, true, List, [], ◌++◌, eqb, length, take, get_or}
+use Rattle.std.specs.Prelude.{ℕ, ◌+◌, ◌-◌, ◌*◌, ◌≤◌, ◌<◌, ◌≡◌, true, List, [], ◌++◌, eqb, length, take, get_or, Result, Ok, Err}
 use Rattle.rules.specs.Range.{all}
 use Rattle.rules.specs.Card.{card_length}
 use Rattle.rules.specs.Event.{Event}
@@ -9,8 +9,6 @@ use Rattle.rules.specs.Run.{run}
 use Rattle.rules.specs.Serial.Demand.{opening_under}
 use Rattle.enumeration.specs.ShortDay.{most_short}
 use Rattle.shortdays.specs.Written.{IsShortLong}
-use Rattle.shortdays.specs.declared.search.Sought.{Sought}
-use Rattle.shortdays.specs.declared.search.Sought.TheVariants.{Found, Past}
 
 -- p events are written at the front of the list, and s is the ledger that they lead to from a new table under the rule, over stores
 -- of zeros
@@ -43,9 +41,13 @@ pub record IsPast (days : List (List Event)) (i j p : ℕ) (s t : Ledger) (list 
   pub kept : take (event_length * p) after ≡ take (event_length * p) list
   pub back : t ≡ s
 
+-- what the search answers: nothing where it found the list, else how far the place is past the last
+abbrev pub Sought : Type 0
+Sought = Result (Unit {0}) ℕ
+
 abbrev pub IsSought : List (List Event) → ℕ → ℕ → ℕ → Ledger → Ledger → List ℕ → List ℕ → Sought → Type 0
-IsSought days i p left s t list after Found = IsFound days i p left s t list after
-IsSought days i p left s t list after (Past j) = IsPast days i j p s t list after
+IsSought days i p left s t list after (Ok found) = IsFound days i p left s t list after
+IsSought days i p left s t list after (Err j) = IsPast days i j p s t list after
 
 -- the same of a whole day, of k events
 pub record IsDayFound (days : List (List Event)) (place k : ℕ) (after : List ℕ) : Type 0 where
@@ -53,5 +55,5 @@ pub record IsDayFound (days : List (List Event)) (place k : ℕ) (after : List �
   pub written : take (event_length * k) after ≡ bytes_of_events (get_or days place [])
 
 abbrev pub IsDaySought : List (List Event) → ℕ → ℕ → List ℕ → Sought → Type 0
-IsDaySought days place k after Found = IsDayFound days place k after
-IsDaySought days place k after (Past j) = place ≡ length days + j
+IsDaySought days place k after (Ok found) = IsDayFound days place k after
+IsDaySought days place k after (Err j) = place ≡ length days + j

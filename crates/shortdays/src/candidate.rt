@@ -5,8 +5,7 @@ ghost use Rattle.rules.specs.Event.{write_code};
 ghost use Rattle.enumeration.specs.Lists.{candidate, code_tried};
 ghost use Rattle.shortdays.specs.Written.{IsCandidate, FewBefore, HasEvent, with_event};
 
-use rules::event;
-use rules::event::{ACCOUNT_AT, CARD_AT, EVENT_LENGTH, NUMBER_AT};
+use rules::event::{ACCOUNT_AT, CARD_AT, Code, EVENT_LENGTH, NUMBER_AT};
 use rules::store::CARD_LENGTH;
 use stores::cards::put_card;
 
@@ -28,7 +27,7 @@ fn byte_of(x: u64) -> u8
 fn code_of(c: u64) -> u64
     ensures { result ≡ code_tried c }
 {
-    event::START + c / NUMBERS
+    u64::from(Code::Start) + c / NUMBERS
 }
 
 // What fills the card of an event with this code: of a write its place, counted from 1.
@@ -36,7 +35,7 @@ fn filling(code: u64, p: usize) -> u64
     requires { FewBefore p }
     ensures { result ≡ cond (eqb code write_code) (p + 1) 0 }
 {
-    if code == event::WRITE {
+    if code == u64::from(Code::Write) {
         (p + 1) as u64
     } else {
         0

@@ -1,38 +1,34 @@
 // The search for the list at a place, through the candidates as the definition of all lists goes through them.
 ghost use Rattle.std.specs.Prelude.{◌+◌, ◌-◌};
 ghost use Rattle.rules.specs.Ledger.{ledger_of};
+ghost use Rattle.rules.specs.Rule.{rule_number};
 ghost use Rattle.enumeration.specs.Lists.{candidate_count, candidate, beginning, beginning_from, lists};
 ghost use Rattle.shortdays.specs.Written.{IsCandidate, IsNextCandidate};
 ghost use Rattle.shortdays.specs.Search.{Searching, IsSought};
 
 use crate::back::bring_back;
 use crate::candidate::{CANDIDATES, put_candidate};
-use dispatch::listed::{listed_cause, listed_event};
-use rules::cause::NONE;
+use dispatch::cause::sound_cause;
+use dispatch::event::sound_event;
+use dispatch::listed::event_at;
 use rules::event::EVENT_LENGTH;
+use rules::rule::Rule;
 
-#[derive(Clone, Copy)]
-pub enum Sought {
-    // the list is written
-    Found,
-    // there are fewer lists: the place is so far past the last
-    Past(u64),
-}
-
-// Place i among the lists that begin with candidate c, behind p events and with so many left.
+// Place i among the lists that begin with candidate c, behind p events and with so many left. Found, the list is written; an error
+// is how far the place is past the last list.
 #[cycle(seek_seek_with)]
 fn seek_with(
     table: &mut [u64],
     base: &mut [u8],
     shadow: &mut [u8],
     list: &mut [u8],
-    rule: u64,
+    rule: Rule,
     p: usize,
     left: usize,
     c: u64,
     i: u64,
-) -> Sought
-    requires searching { Searching rule p left list.old (ledger_of table.old base.old shadow.old) }
+) -> Result<(), u64>
+    requires searching { Searching (rule_number rule) p left list.old (ledger_of table.old base.old shadow.old) }
     requires candidate { IsCandidate c }
     ensures { IsSought
         (beginning (lists (left - 1) (p + 1)) (ledger_of table.old base.old shadow.old) (candidate p c))
@@ -43,23 +39,22 @@ fn seek_with(
 {
     put_candidate(list, p, c);
     let at = EVENT_LENGTH * p;
-    if listed_cause(table, base, list, at) != NONE {
-        return Sought::Past(i);
+    if sound_cause(table, base, event_at(list, at)).is_err() {
+        return Err(i);
     }
     if left == 1 {
         if i == 0 {
-            return Sought::Found;
+            return Ok(());
         }
         let passed = i - 1;
-        return Sought::Past(passed);
+        return Err(passed);
     }
-    listed_event(table, base, shadow, list, at);
-    let sought = seek(table, base, shadow, list, rule, p + 1, left - 1, 0, i);
-    match sought {
-        Sought::Found => Sought::Found,
-        Sought::Past(j) => {
+    sound_event(table, base, shadow, event_at(list, at));
+    match seek(table, base, shadow, list, rule, p + 1, left - 1, 0, i) {
+        Ok(()) => Ok(()),
+        Err(past) => {
             bring_back(table, base, shadow, rule, list, p);
-            Sought::Past(j)
+            Err(past)
         }
     }
 }
@@ -71,13 +66,13 @@ pub(crate) fn seek(
     base: &mut [u8],
     shadow: &mut [u8],
     list: &mut [u8],
-    rule: u64,
+    rule: Rule,
     p: usize,
     left: usize,
     c: u64,
     i: u64,
-) -> Sought
-    requires searching { Searching rule p left list.old (ledger_of table.old base.old shadow.old) }
+) -> Result<(), u64>
+    requires searching { Searching (rule_number rule) p left list.old (ledger_of table.old base.old shadow.old) }
     requires next_candidate { IsNextCandidate c }
     ensures { IsSought
         (beginning_from (lists (left - 1) (p + 1)) p (ledger_of table.old base.old shadow.old)
@@ -88,11 +83,10 @@ pub(crate) fn seek(
         list.old list.new result }
 {
     if c == CANDIDATES {
-        return Sought::Past(i);
+        return Err(i);
     }
-    let sought = seek_with(table, base, shadow, list, rule, p, left, c, i);
-    match sought {
-        Sought::Found => Sought::Found,
-        Sought::Past(j) => seek(table, base, shadow, list, rule, p, left, c + 1, j),
+    match seek_with(table, base, shadow, list, rule, p, left, c, i) {
+        Ok(()) => Ok(()),
+        Err(past) => seek(table, base, shadow, list, rule, p, left, c + 1, past),
     }
 }

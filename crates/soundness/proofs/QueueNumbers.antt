@@ -1,14 +1,15 @@
 -- The numbers of those who wait in a queue, by their positions: what a loop over the positions asks of them. Assumes nothing.
-use Prim.Native.Nat.{ℕ, ◌+◌, ◌≤◌, ◌<◌}
-use native.Mathlib.Nat.{add-sub_cancel}
-use mathlib.Core.Path.{◌≡◌}
-use mathlib.Core.Bool.{Bool, true, false}
+use Prim.Native.Nat.{ℕ, zero, suc, ◌+◌, ◌-◌}
+use native.Mathlib.Nat.{add-sub_cancel, add-suc, suc-add}
+use native.Mathlib.Numerals.{add-one}
+use native.Mathlib.Omega.{arith}
+use mathlib.Core.Path.{◌≡◌, refl, ap₂, ◌∙◌}
+use mathlib.Core.Bool.{Bool, not, ◌&&◌}
 use mathlib.Core.List.{List, map}
 use lib.Dec.{eqb}
 use Rattle.rules.specs.Range.{up_from, all}
 use Rattle.rules.specs.Queue.{queue_length, entry_at, queue, entry_number}
 use Rattle.rules.specs.Sound.{are_distinct, queue_numbers}
-use Rattle.rules.proofs.Laws.Ranges.{left_next, left_done}
 use Rattle.rules.proofs.Laws.Lists.{map_map, any_map, all_map}
 use Rattle.soundness.specs.Positions.{behind_tail, positions_from, stands_from}
 
@@ -20,25 +21,17 @@ module _ (w : List ℕ) (h : ℕ) where
   pub all_by_position : (f : ℕ → Bool) → all f (queue_numbers w h) ≡ all (λ i. f (entry_number w h i)) (positions_from w h 1)
   all_by_position f = rw numbers_by_position (all_map f (entry_number w h) (positions_from w h 1))
 
-  -- those at the positions from i on stand there once each
-  abbrev pub distinct_from : ℕ → Bool
-  distinct_from i = are_distinct (map (entry_number w h) (positions_from w h i))
+  -- the numbers at the positions from i on stand there once each where none stands again further on
+  distinct_by :
+      (i n : ℕ) → i + n ≡ behind_tail w h →
+      are_distinct (map (entry_number w h) (up_from i n)) ≡ all (λ j. not (stands_from w h j (j + 1))) (up_from i n)
+  unfolding are_distinct all up_from
+  distinct_by i zero e = refl
+  distinct_by i (suc n) e =
+      let left : behind_tail w h - (i + 1) ≡ n = omega (arith, add-suc i n) in
+      ap₂ (λ again later. not again && later)
+      (any_map (eqb (entry_number w h i)) (entry_number w h) (up_from (suc i) n) ∙ rw (left, add-one))
+      (distinct_by (suc i) n (omega (arith, add-suc i n, suc-add i n)))
 
-  pub distinct_by_position : are_distinct (queue_numbers w h) ≡ distinct_from 1
-  distinct_by_position = rw numbers_by_position
-
-  module _ (i : ℕ) where
-    -- the number at i stands again further on, or it is passed over
-    pub distinct_left_here : i < behind_tail w h → stands_from w h i (i + 1) ≡ true → distinct_from i ≡ false
-    unfolding are_distinct
-    distinct_left_here inside again =
-        rw (left_next i (behind_tail w h) inside, any_map (eqb (entry_number w h i)) (entry_number w h) (positions_from w h (i + 1)), again)
-
-    pub distinct_left_next : i < behind_tail w h → stands_from w h i (i + 1) ≡ false → distinct_from i ≡ distinct_from (i + 1)
-    unfolding are_distinct
-    distinct_left_next inside alone =
-        rw (left_next i (behind_tail w h) inside, any_map (eqb (entry_number w h i)) (entry_number w h) (positions_from w h (i + 1)), alone)
-
-    pub distinct_left_done : behind_tail w h ≤ i → distinct_from i ≡ true
-    unfolding are_distinct
-    distinct_left_done past = rw (left_done i (behind_tail w h) past)
+  pub distinct_by_position : are_distinct (queue_numbers w h) ≡ all (λ i. not (stands_from w h i (i + 1))) (positions_from w h 1)
+  distinct_by_position = rw numbers_by_position (distinct_by 1 (behind_tail w h - 1) (omega arith))

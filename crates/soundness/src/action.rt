@@ -8,20 +8,17 @@ use crate::pending::has_pending_written;
 use crate::times::{has_end_alone, has_end_in_time, has_read_in_time};
 use crate::way::has_way_up;
 use rows::fields::{highest, is_live, parent, state};
-use rules::table::{ABORTED, COMMITTED, LIVE, STORE};
+use rules::action::State;
+use rules::table::STORE;
 
 fn has_state(table: &[u64], n: u64) -> bool
     requires { HasRow table.now n }
     ensures { result ≡ has_state table.now n }
 {
-    let state = state(table, n);
-    if state == LIVE {
-        return true;
-    }
-    if state == COMMITTED {
-        return true;
-    }
-    state == ABORTED
+    let word = state(table, n);
+    word == u64::from(State::Live)
+        || word == u64::from(State::Committed)
+        || word == u64::from(State::Aborted)
 }
 
 fn has_parent_known(table: &[u64], n: u64) -> bool
@@ -40,38 +37,22 @@ fn has_parent_alive(table: &[u64], n: u64) -> bool
         return true;
     }
     let up = parent(table, n);
-    if up == STORE {
-        return true;
-    }
-    is_live(table, up)
+    up == STORE || is_live(table, up)
 }
 
 // Every clause that speaks of one action.
+#[tactic(auto, unfolding(rules::specs::Sound::is_sound_action))]
 pub(crate) fn is_sound_action(table: &[u64], n: u64) -> bool
     requires scannable { Scannable table.now }
     requires has_row { HasRow table.now n }
     ensures { result ≡ is_sound_action table.now n }
 {
-    if !has_state(table, n) {
-        return false;
-    }
-    if !has_parent_known(table, n) {
-        return false;
-    }
-    if !has_way_up(table, n) {
-        return false;
-    }
-    if !has_parent_alive(table, n) {
-        return false;
-    }
-    if !has_read_in_time(table, n) {
-        return false;
-    }
-    if !has_end_in_time(table, n) {
-        return false;
-    }
-    if !has_end_alone(table, n) {
-        return false;
-    }
-    has_pending_written(table, n)
+    has_state(table, n)
+        && has_parent_known(table, n)
+        && has_way_up(table, n)
+        && has_parent_alive(table, n)
+        && has_read_in_time(table, n)
+        && has_end_in_time(table, n)
+        && has_end_alone(table, n)
+        && has_pending_written(table, n)
 }

@@ -12,10 +12,7 @@ fn is_committed_child(table: &[u64], p: u64, m: u64) -> bool
     requires { HasRow table.now m }
     ensures { result ≡ is_committed_child_of table.now p m }
 {
-    if parent(table, m) != p {
-        return false;
-    }
-    is_committed(table, m)
+    parent(table, m) == p && is_committed(table, m)
 }
 
 // Its write set isn't tested: an empty one raises nothing.

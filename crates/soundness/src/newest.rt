@@ -17,41 +17,25 @@ fn is_newest_in_time(table: &[u64], p: u64) -> bool
     ensures { result ≡ is_newest_in_time table.now p }
 {
     let last = counter(table, kind_under(p));
-    for k in 0..ACCOUNTS {
-        if !is_newest_by(table, p, k, last) {
-            return false;
-        }
-    }
-    true
+    (0..ACCOUNTS).all(|k| is_newest_by(table, p, k, last))
 }
 
 fn all_in_time(table: &[u64]) -> bool
     requires { Scannable table.now }
     ensures { result ≡ all (is_newest_in_time table.now) (parents table.now) }
 {
-    let last = highest(table);
-    for p in STORE..last + 1 {
-        if !is_newest_in_time(table, p) {
-            return false;
-        }
-    }
-    true
+    (STORE..highest(table) + 1).all(|p| is_newest_in_time(table, p))
 }
 
 fn have_no_newest(table: &[u64]) -> bool
     requires { Scannable table.now }
     ensures { result ≡ all (has_no_newest table.now) (actions table.now) }
 {
-    let last = highest(table);
-    for n in 1..last + 1 {
-        if !has_no_newest(table, n) {
-            return false;
-        }
-    }
-    true
+    (1..highest(table) + 1).all(|n| has_no_newest(table, n))
 }
 
 // Where no subaction has committed no action has such a time; a pass that finds this is quicker than to compare them.
+#[tactic(auto, using(crate::proofs::NewestWords::store_alone))]
 pub(crate) fn are_newest_in_time(table: &[u64]) -> bool
     requires { Scannable table.now }
     ensures { result ≡ all (is_newest_in_time table.now) (parents table.now) }

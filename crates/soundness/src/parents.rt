@@ -16,6 +16,7 @@ use rules::table::STORE;
 const MOST_PARENTS: usize = 65;
 
 // One that has passed isn't tested again.
+#[tactic(auto, unfolding(crate::specs::Passed::is_true_above))]
 fn is_true_above(table: &[u64], m: u64, passed: &[bool; MOST_PARENTS]) -> bool
     requires live_climb { LiveClimb table.now }
     requires live_parents { LiveParents table.now }
@@ -27,10 +28,7 @@ fn is_true_above(table: &[u64], m: u64, passed: &[bool; MOST_PARENTS]) -> bool
         return true;
     }
     let p = parent(table, m);
-    if passed[p as usize] {
-        return true;
-    }
-    are_newest_true(table, p)
+    passed[p as usize] || are_newest_true(table, p)
 }
 
 fn pass_parent(passed: &mut [bool; MOST_PARENTS], table: &[u64], m: u64)
@@ -44,6 +42,7 @@ fn pass_parent(passed: &mut [bool; MOST_PARENTS], table: &[u64], m: u64)
     }
 }
 
+// A for: each turn marks who has passed, which the next one asks.
 pub(crate) fn all_parents_true(table: &[u64]) -> bool
     requires live_climb { LiveClimb table.now }
     requires live_parents { LiveParents table.now }

@@ -15,11 +15,7 @@ fn has_no_pending(table: &[u64], n: u64) -> bool
     requires { HasRow table.now n }
     ensures { result ≡ all (λ k. eqb (pending_word table.now n k) 0) charge_accounts }
 {
-    let mut joined = NO_SUM;
-    for k in FIRST_CHARGE..ACCOUNTS {
-        joined |= pending(table, n, k);
-    }
-    joined == NO_SUM
+    (FIRST_CHARGE..ACCOUNTS).fold(NO_SUM, |joined, k| joined | pending(table, n, k)) == NO_SUM
 }
 
 // The sum first: most of them are 0.
@@ -28,31 +24,21 @@ fn is_pending_written(table: &[u64], n: u64, k: u64) -> bool
     requires charge { IsCharge k }
     ensures { result ≡ (has_written table.now n k || eqb (pending_word table.now n k) 0) }
 {
-    if pending(table, n, k) == NO_SUM {
-        return true;
-    }
-    has_written(table, n, k)
+    pending(table, n, k) == NO_SUM || has_written(table, n, k)
 }
 
 fn all_pending_written(table: &[u64], n: u64) -> bool
     requires { HasRow table.now n }
     ensures { result ≡ has_pending_written table.now n }
 {
-    for k in FIRST_CHARGE..ACCOUNTS {
-        if !is_pending_written(table, n, k) {
-            return false;
-        }
-    }
-    true
+    (FIRST_CHARGE..ACCOUNTS).all(|k| is_pending_written(table, n, k))
 }
 
 // Most actions have no pending sum at all.
+#[tactic(auto, using(crate::proofs::PendingWords::no_sum_written))]
 pub(crate) fn has_pending_written(table: &[u64], n: u64) -> bool
     requires { HasRow table.now n }
     ensures { result ≡ has_pending_written table.now n }
 {
-    if has_no_pending(table, n) {
-        return true;
-    }
-    all_pending_written(table, n)
+    has_no_pending(table, n) || all_pending_written(table, n)
 }

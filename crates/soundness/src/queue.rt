@@ -1,7 +1,8 @@
 // The clauses on the queues: their lengths, and who waits there.
 ghost use Rattle.std.specs.Prelude.{◌≡◌, ◌+◌, ◌≤◌};
 ghost use Rattle.rules.specs.Range.{all};
-ghost use Rattle.rules.specs.Kind.{IsKind, kinds};
+ghost use Rattle.rules.specs.Action.{kind_number};
+ghost use Rattle.rules.specs.Kind.{kinds};
 ghost use Rattle.rules.specs.Table.{most_actions};
 ghost use Rattle.rules.specs.Queue.{queue_length};
 ghost use Rattle.rules.specs.Sound.{may_wait, are_distinct, queue_numbers, is_sound_queue};
@@ -11,96 +12,64 @@ ghost use Rattle.soundness.specs.Positions.{stands_from};
 use ancestry::children::has_live_child;
 use rows::entries::{entry_number, queue_length};
 use rows::fields::{highest, is_live, kind_of};
+use rules::action::Kind;
 use rules::queue::FIRST_POSITION;
-use rules::table::{MOST_ACTIONS, STORE, SUB, TOP};
+use rules::table::{MOST_ACTIONS, STORE};
 
 // Any word may stand in an entry, so its row is looked at only where it is an action's number.
-fn may_wait(table: &[u64], h: u64, n: u64) -> bool
+#[tactic(auto, unfolding(rules::specs::Sound::may_wait))]
+fn may_wait(table: &[u64], h: Kind, n: u64) -> bool
     requires { Scannable table.now }
-    ensures { result ≡ may_wait table.now h n }
+    ensures { result ≡ may_wait table.now (kind_number h) n }
 {
-    if n == STORE {
-        return false;
-    }
-    if highest(table) < n {
-        return false;
-    }
-    if !is_live(table, n) {
-        return false;
-    }
-    if kind_of(table, n) != h {
-        return false;
-    }
-    !has_live_child(table, n)
+    n != STORE
+        && n <= highest(table)
+        && is_live(table, n)
+        && kind_of(table, n) == h
+        && !has_live_child(table, n)
 }
 
-fn all_may_wait(table: &[u64], h: u64) -> bool
+fn all_may_wait(table: &[u64], h: Kind) -> bool
     requires scannable { Scannable table.now }
-    requires kind { IsKind h }
-    requires h_bound { queue_length table.now h ≤ most_actions }
-    ensures { result ≡ all (may_wait table.now h) (queue_numbers table.now h) }
+    requires h_bound { queue_length table.now (kind_number h) ≤ most_actions }
+    ensures { result ≡ all (may_wait table.now (kind_number h)) (queue_numbers table.now (kind_number h)) }
 {
     let tail = queue_length(table, h);
-    for i in FIRST_POSITION..tail + 1 {
-        if !may_wait(table, h, entry_number(table, h, i)) {
-            return false;
-        }
-    }
-    true
+    (FIRST_POSITION..tail + 1).all(|i| may_wait(table, h, entry_number(table, h, i)))
 }
 
 // The number at position i stands at a later one too.
-fn stands_again(table: &[u64], h: u64, i: u64) -> bool
+fn stands_again(table: &[u64], h: Kind, i: u64) -> bool
     requires has_row { HasRow table.now i }
-    requires kind { IsKind h }
-    requires h_bound { queue_length table.now h ≤ most_actions }
-    ensures { result ≡ stands_from table.now h i (i + 1) }
+    requires h_bound { queue_length table.now (kind_number h) ≤ most_actions }
+    ensures { result ≡ stands_from table.now (kind_number h) i (i + 1) }
 {
     let n = entry_number(table, h, i);
     let tail = queue_length(table, h);
-    for j in i + 1..tail + 1 {
-        if n == entry_number(table, h, j) {
-            return true;
-        }
-    }
-    false
+    (i + 1..tail + 1).any(|j| n == entry_number(table, h, j))
 }
 
-fn are_distinct(table: &[u64], h: u64) -> bool
+fn are_distinct(table: &[u64], h: Kind) -> bool
     requires has_row { HasRow table.now 0 }
-    requires kind { IsKind h }
-    requires h_bound { queue_length table.now h ≤ most_actions }
-    ensures { result ≡ are_distinct (queue_numbers table.now h) }
+    requires h_bound { queue_length table.now (kind_number h) ≤ most_actions }
+    ensures { result ≡ are_distinct (queue_numbers table.now (kind_number h)) }
 {
     let tail = queue_length(table, h);
-    for i in FIRST_POSITION..tail + 1 {
-        if stands_again(table, h, i) {
-            return false;
-        }
-    }
-    true
+    (FIRST_POSITION..tail + 1).all(|i| !stands_again(table, h, i))
 }
 
-fn is_sound_queue(table: &[u64], h: u64) -> bool
-    requires scannable { Scannable table.now }
-    requires kind { IsKind h }
-    ensures { result ≡ is_sound_queue table.now h }
+#[tactic(auto, unfolding(rules::specs::Sound::is_sound_queue))]
+fn is_sound_queue(table: &[u64], h: Kind) -> bool
+    requires { Scannable table.now }
+    ensures { result ≡ is_sound_queue table.now (kind_number h) }
 {
-    if MOST_ACTIONS < queue_length(table, h) {
-        return false;
-    }
-    if !all_may_wait(table, h) {
-        return false;
-    }
-    are_distinct(table, h)
+    queue_length(table, h) <= MOST_ACTIONS && all_may_wait(table, h) && are_distinct(table, h)
 }
 
+#[tactic(auto, using(crate::proofs::BothKinds::both_kinds))]
 pub(crate) fn are_sound_queues(table: &[u64]) -> bool
     requires { Scannable table.now }
     ensures { result ≡ all (is_sound_queue table.now) kinds }
 {
-    if !is_sound_queue(table, TOP) {
-        return false;
-    }
-    is_sound_queue(table, SUB)
+    is_sound_queue(table, Kind::Top) && is_sound_queue(table, Kind::Sub)
 }

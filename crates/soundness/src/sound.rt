@@ -2,7 +2,8 @@
 // times.
 ghost use Rattle.std.specs.Prelude.{◌≡◌};
 ghost use Rattle.rules.specs.Range.{all};
-ghost use Rattle.rules.specs.Kind.{IsKind, kinds};
+ghost use Rattle.rules.specs.Action.{kind_number};
+ghost use Rattle.rules.specs.Kind.{kinds};
 ghost use Rattle.rules.specs.Table.{actions};
 ghost use Rattle.rules.specs.Sound.{is_bounded, is_sound_action, sound};
 ghost use Rattle.rows.specs.Row.{HasRow, Scannable};
@@ -14,62 +15,42 @@ use crate::queue::are_sound_queues;
 use rows::entries::queue_length;
 use rows::fields::{has_rule, highest};
 use rows::times::has_times_left;
-use rules::table::{MOST_ACTIONS, SUB, TABLE_LENGTH, TOP};
+use rules::action::Kind;
+use rules::table::{MOST_ACTIONS, TABLE_LENGTH};
 
-fn is_bounded(table: &[u64], h: u64) -> bool
-    requires has_row { HasRow table.now 0 }
-    requires kind { IsKind h }
-    ensures { result ≡ is_bounded table.now h }
+#[tactic(auto, unfolding(rules::specs::Sound::is_bounded))]
+fn is_bounded(table: &[u64], h: Kind) -> bool
+    requires { HasRow table.now 0 }
+    ensures { result ≡ is_bounded table.now (kind_number h) }
 {
     has_times_left(table, h, queue_length(table, h))
 }
 
+#[tactic(auto, using(crate::proofs::BothKinds::both_kinds))]
 fn are_bounded(table: &[u64]) -> bool
     requires { HasRow table.now 0 }
     ensures { result ≡ all (is_bounded table.now) kinds }
 {
-    if !is_bounded(table, TOP) {
-        return false;
-    }
-    is_bounded(table, SUB)
+    is_bounded(table, Kind::Top) && is_bounded(table, Kind::Sub)
 }
 
 fn all_sound(table: &[u64]) -> bool
     requires { Scannable table.now }
     ensures { result ≡ all (is_sound_action table.now) (actions table.now) }
 {
-    let last = highest(table);
-    for n in 1..last + 1 {
-        if !is_sound_action(table, n) {
-            return false;
-        }
-    }
-    true
+    (1..highest(table) + 1).all(|n| is_sound_action(table, n))
 }
 
+#[tactic(auto, using(crate::proofs::LiveActions::live_climb, crate::proofs::LiveActions::live_parents), unfolding(rules::specs::Sound::sound))]
 pub fn is_sound(table: &[u64]) -> bool
     ensures { result ≡ sound table.now }
 {
-    if table.len() != TABLE_LENGTH {
-        return false;
-    }
-    if MOST_ACTIONS < highest(table) {
-        return false;
-    }
-    if !has_rule(table) {
-        return false;
-    }
-    if !are_bounded(table) {
-        return false;
-    }
-    if !all_sound(table) {
-        return false;
-    }
-    if !are_sound_queues(table) {
-        return false;
-    }
-    if !are_newest_in_time(table) {
-        return false;
-    }
-    all_parents_true(table)
+    table.len() == TABLE_LENGTH
+        && highest(table) <= MOST_ACTIONS
+        && has_rule(table)
+        && are_bounded(table)
+        && all_sound(table)
+        && are_sound_queues(table)
+        && are_newest_in_time(table)
+        && all_parents_true(table)
 }

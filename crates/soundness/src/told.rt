@@ -16,6 +16,7 @@ use rows::times::ends::{ENDS_LENGTH, are_newest, is_newest, is_told_alike};
 use rules::store::ACCOUNTS;
 
 // The read before the walk up: most actions haven't read the account.
+#[tactic(auto, using(crate::proofs::HeldEnds::stale_by_ends), unfolding(crate::specs::Reads::is_read_true, rules::specs::Sound::is_told_true))]
 fn is_read_true(table: &[u64], p: u64, k: u64, end: u64, m: u64) -> bool
     requires live_climb { LiveClimb table.now }
     requires has_row { HasRow table.now p }
@@ -24,16 +25,10 @@ fn is_read_true(table: &[u64], p: u64, k: u64, end: u64, m: u64) -> bool
     requires held { IsHeld table.now p k end }
     ensures { result ≡ is_read_true table.now p k m }
 {
-    if !is_live(table, m) {
-        return true;
-    }
-    if !has_read(table, m, k) {
-        return true;
-    }
-    if !is_under(table, p, m) {
-        return true;
-    }
-    is_told_alike(table, p, m, k, end)
+    !is_live(table, m)
+        || !has_read(table, m, k)
+        || !is_under(table, p, m)
+        || is_told_alike(table, p, m, k, end)
 }
 
 fn all_reads_true(table: &[u64], p: u64, k: u64, end: u64) -> bool
@@ -43,16 +38,11 @@ fn all_reads_true(table: &[u64], p: u64, k: u64, end: u64) -> bool
     requires held { IsHeld table.now p k end }
     ensures { result ≡ all (is_read_true table.now p k) (actions table.now) }
 {
-    let last = highest(table);
-    for m in 1..last + 1 {
-        if !is_read_true(table, p, k, end, m) {
-            return false;
-        }
-    }
-    true
+    (1..highest(table) + 1).all(|m| is_read_true(table, p, k, end, m))
 }
 
 // Where the two end times are the same they tell every read the same.
+#[tactic(auto, using(crate::proofs::AccountReads::same_end_true), unfolding(crate::specs::Reads::are_reads_true))]
 fn are_reads_true(table: &[u64], p: u64, k: u64, end: u64) -> bool
     requires live_climb { LiveClimb table.now }
     requires has_row { HasRow table.now p }
@@ -60,10 +50,7 @@ fn are_reads_true(table: &[u64], p: u64, k: u64, end: u64) -> bool
     requires held { IsHeld table.now p k end }
     ensures { result ≡ are_reads_true table.now p k }
 {
-    if is_newest(table, p, k, end) {
-        return true;
-    }
-    all_reads_true(table, p, k, end)
+    is_newest(table, p, k, end) || all_reads_true(table, p, k, end)
 }
 
 fn all_accounts_true(table: &[u64], p: u64, ends: &[u64; ENDS_LENGTH]) -> bool
@@ -72,23 +59,16 @@ fn all_accounts_true(table: &[u64], p: u64, ends: &[u64; ENDS_LENGTH]) -> bool
     requires are_held { AreHeld table.now p ends.now }
     ensures { result ≡ are_newest_true table.now p }
 {
-    for k in 0..ACCOUNTS {
-        if !are_reads_true(table, p, k, ends[k as usize]) {
-            return false;
-        }
-    }
-    true
+    (0..ACCOUNTS).all(|k| are_reads_true(table, p, k, ends[k as usize]))
 }
 
 // The two differ where the newest record has been dropped, and then mostly for few accounts.
+#[tactic(auto, using(crate::proofs::AccountReads::same_ends_true))]
 pub(crate) fn are_newest_true(table: &[u64], p: u64) -> bool
     requires live_climb { LiveClimb table.now }
     requires store_or_live { StoreOrLive table.now p }
     ensures { result ≡ are_newest_true table.now p }
 {
     let ends = ends_held(table, p);
-    if are_newest(table, p, &ends) {
-        return true;
-    }
-    all_accounts_true(table, p, &ends)
+    are_newest(table, p, &ends) || all_accounts_true(table, p, &ends)
 }

@@ -6,12 +6,10 @@ ghost use Rattle.rows.specs.Row.{HasRow};
 use ancestry::way::reaches_store;
 use rows::fields::is_live;
 
+#[tactic(auto, unfolding(rules::specs::Sound::has_way_up))]
 pub(crate) fn has_way_up(table: &[u64], n: u64) -> bool
     requires { HasRow table.now n }
     ensures { result ≡ has_way_up table.now n }
 {
-    if !is_live(table, n) {
-        return true;
-    }
-    reaches_store(table, n)
+    !is_live(table, n) || reaches_store(table, n)
 }

@@ -9,11 +9,7 @@ use rules::store::CARD_LENGTH;
 pub fn clear(store: &mut [u8])
     ensures { store.new ≡ replicate (length store.old) 0 }
 {
-    let mut i = 0;
-    while i < store.len() {
-        store[i] = 0;
-        i += 1;
-    }
+    store.fill(0);
 }
 
 pub fn put_card(store: &mut [u8], at: usize, card: &[u8])
@@ -21,9 +17,8 @@ pub fn put_card(store: &mut [u8], at: usize, card: &[u8])
     requires card { IsCard card.now }
     ensures { store.new ≡ with_card store.old at card.now }
 {
-    for i in 0..CARD_LENGTH {
-        store[at + i] = card[i];
-    }
+    let end = at + CARD_LENGTH;
+    store[at..end].copy_from_slice(card);
 }
 
 // A card of one store put into another.
@@ -36,24 +31,12 @@ pub fn copy_card(store: &mut [u8], to: usize, source: &[u8], from: usize)
     put_card(store, to, &source[from..end]);
 }
 
-// A card, out of a store.
-fn take_card(store: &[u8], at: usize) -> [u8; CARD_LENGTH]
-    requires { CardFits store.now at }
-    ensures { result ≡ card_at store.now at }
-{
-    let mut card = [0; CARD_LENGTH];
-    for i in 0..CARD_LENGTH {
-        card[i] = store[at + i];
-    }
-    card
-}
-
-// A card of a store put at another place of it. It is taken out first: the store can't be lent twice.
+// A card of a store put at another place of it.
 pub fn move_card(store: &mut [u8], to: usize, from: usize)
     requires card_fits { CardFits store.old to }
     requires card_fits_2 { CardFits store.old from }
     ensures { store.new ≡ with_card store.old to (card_at store.old from) }
 {
-    let card = take_card(store, from);
-    put_card(store, to, &card);
+    let end = from + CARD_LENGTH;
+    store.copy_within(from..end, to);
 }

@@ -10,6 +10,7 @@ use std::io::{Error, ErrorKind, Read, Result, Write};
 
 // Reads until the buffer is full or the reader is at its end. Back comes how many bytes stand at the buffer's front. Where a
 // read fails, what was read before is lost.
+// `at` counts bytes, as in std's `read_exact`, which takes an end for an error; the methods of std that read to the end need a heap.
 pub fn read_full<R: Read>(reader: &mut R, buf: &mut [u8]) -> Result<usize>
     ensures bound { ReadsAtMost result buf.new }
     ensures bytes { IfOk result (λ n. Consumes (R.remaining reader.old) (R.remaining reader.new) (take n buf.new)) }
@@ -27,18 +28,19 @@ pub fn read_full<R: Read>(reader: &mut R, buf: &mut [u8]) -> Result<usize>
     Ok(at)
 }
 
-// Writes the whole buffer. Where a write fails or takes nothing, a front of it was written.
+// Writes the whole buffer. Where a write fails or takes nothing, a front of it was written. std's `write_all` says nothing of what
+// a failed write leaves.
 pub fn write_full<W: Write>(writer: &mut W, buf: &[u8]) -> Result<()>
     ensures bytes { OnOk result (Appends (W.contents writer.old) (W.contents writer.new) buf.now) }
     ensures failed { OnErr result (AppendsFront (W.contents writer.old) (W.contents writer.new) buf.now) }
 {
-    let mut at = 0;
-    while at < buf.len() {
-        let n = writer.write(&buf[at..])?;
+    let mut rest = buf;
+    while !rest.is_empty() {
+        let n = writer.write(rest)?;
         if n == 0 {
             return Err(Error::from(ErrorKind::WriteZero));
         }
-        at += n;
+        rest = &rest[n..];
     }
     Ok(())
 }

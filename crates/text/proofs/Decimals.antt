@@ -4,7 +4,9 @@ use Prim.Native.Nat.{ℕ, zero, suc, ◌+◌, ◌-◌, ◌/◌, ◌%◌, ◌^◌
 use native.Mathlib.Nat.{one-le-pow, pow-suc, pow-le-pow_right}
 use native.Mathlib.Decide.{dec_le}
 use native.Mathlib.Omega.{arith}
-use mathlib.Core.Path.{◌≡◌}
+use Rattle.std.proofs.Common.{refl, true, false, true≢false, to_z-of_z, w64, to_z, of_z, ltb-true}
+use mathlib.Core.Path.{◌≡◌, ◌∙◌}
+use lib.Signed.{mag, lt_z}
 use mathlib.Core.List.{List, ◌∷◌}
 use lib.Dec.{ltb}
 use lib.ListN.{length, length-append}
@@ -87,17 +89,32 @@ decimal_below k n h = decimal_within_below k most_digits n h
 
 -- ---- sums
 
--- a word below 2^63 is the number itself
-pub signed_low : (x : ℕ) → x < 2 ^ 63 → signed (amount_of x) ≡ decimal x
-unfolding signed amount_of
-signed_low x low = rw (lt-ltb x (2 ^ 63) low)
+-- a number below 0 has a minus before its digits
+digits_below_zero : (z : ℤ) → lt_z z (pos 0) ≡ true → signed z ≡ minus ∷ decimal (nat_abs z)
+unfolding signed
+digits_below_zero (pos n) below = absurd (omega (arith, ltb-true n 0 below))
+digits_below_zero (negsuc n) below = refl
 
--- any other is 2^64 less
-pub signed_high : (x : ℕ) → x < 2 ^ 64 → 2 ^ 63 ≤ x → signed (amount_of x) ≡ minus ∷ decimal (2 ^ 63 - (x - 2 ^ 63))
-unfolding signed amount_of
-signed_high x fits high =
-    let size : suc (2 ^ 64 - suc x) ≡ 2 ^ 63 - (x - 2 ^ 63) = omega arith in
-    rw (le-ltb x (2 ^ 63) high, size)
+-- and any other its digits alone
+digits_from_zero : (z : ℤ) → lt_z z (pos 0) ≡ false → signed z ≡ decimal (nat_abs z)
+unfolding signed
+digits_from_zero (pos n) from = refl
+digits_from_zero (negsuc n) from = absurd (true≢false from)
+
+-- the number that a word is, as it lies in 64 signed bits
+module _ (word : ℕ) {number : ℤ} (fits : mag number < 2 ^ 63) (is : number ≡ to_z w64 word) where
+  abbrev held : ℤ
+  held = to_z w64 (of_z w64 number)
+
+  is_held : held ≡ amount_of word
+  unfolding amount_of
+  is_held = to_z-of_z {w = w64} (record { sfits = fits }) ∙ is
+
+  pub signed_below_zero : lt_z held (pos 0) ≡ true → signed (amount_of word) ≡ minus ∷ decimal (nat_abs held)
+  signed_below_zero below = rw (← is_held) (digits_below_zero held below)
+
+  pub signed_from_zero : lt_z held (pos 0) ≡ false → signed (amount_of word) ≡ decimal (nat_abs held)
+  signed_from_zero from = rw (← is_held) (digits_from_zero held from)
 
 -- a sign and 19 digits at most
 signed_length : (z : ℤ) → dn z ≤ 2 ^ 63 → length (signed z) ≤ most_digits

@@ -9,7 +9,8 @@ use mathlib.Core.Path.{◌≡◌, refl, ◌∙◌}
 use mathlib.Core.List.{List, [], ◌∷◌, ◌++◌, append_assoc, append-nil}
 use lib.ListN.{length, take, drop, set, length-append, length-take, length-drop, drop_of_length-le, take-append-drop}
 use lib.Seq.{length-take-le, take_all, take_at, drop_at, drop-drop, set_split, append_snoc}
-use Rattle.text.specs.Put.{put_at}
+use Rattle.text.specs.declared.Text.{Text}
+use Rattle.text.specs.Put.{put_at, Writes}
 
 pub put_at_length :
     (buffer text : List ℕ) (at : ℕ) → at + length text ≤ length buffer → length (put_at buffer at text) ≡ length buffer
@@ -58,38 +59,27 @@ put_at_append buffer text more at = go (dec_le at (length buffer))
           append_assoc (take at buffer) text more,
         )
 
--- What two calls leave that put a text and another right behind it, each the next place and the buffer, is what putting both
--- as one leaves.
-pub put_then :
-    {middle after : List ℕ} {there next : ℕ} (buffer text more : List ℕ) (at : ℕ)
-    → (there ≡ at + length text) × (middle ≡ put_at buffer at text)
-    → (next ≡ there + length more) × (after ≡ put_at middle there more)
-    → (next ≡ at + length (text ++ more)) × (after ≡ put_at buffer at (text ++ more))
-put_then buffer text more at first second = (
-  rw length-append (omega arith),
-  second.1 ∙ rw (first.0, first.1) (put_at_append buffer text more at),
-)
+-- a piece, and another right behind it
+pub writes_then :
+    {start middle end : Text} {piece more : List ℕ}
+    → Writes start middle piece → Writes middle end more → Writes start end (piece ++ more)
+writes_then {start} {middle} {end} {piece} {more} first second = record {
+  same = second.same ∙ first.same;
+  room = second.room ∙ first.room;
+  next = rw length-append (omega (arith, first.next, second.next));
+  leaves = second.leaves ∙ rw (first.leaves, first.next) (put_at_append start.out.now piece more start.at);
+}
 
--- the same at the front of the buffer
-pub put_front :
-    {middle after : List ℕ} {there next : ℕ} (buffer text more : List ℕ)
-    → (there ≡ length text) × (middle ≡ put_at buffer 0 text)
-    → (next ≡ there + length more) × (after ≡ put_at middle there more)
-    → (next ≡ length (text ++ more)) × (after ≡ put_at buffer 0 (text ++ more))
-put_front buffer text more first second =
-    let both = put_then buffer text more 0 (omega (arith, first.0), first.1) second in
-    (omega (arith, both.0), both.1)
-
--- and that front is the text
+-- what is put at the front of a buffer stands there
 pub text_in_front :
     {k : ℕ} {after : List ℕ} (text buffer : List ℕ) → (k ≡ length text) × (after ≡ put_at buffer 0 text) → take k after ≡ text
 unfolding put_at
 text_in_front text buffer put = rw (put.0, put.1) (take_at text _ (length text) refl)
 
--- no text at all
-pub put_at_nothing : (buffer : List ℕ) (at : ℕ) → put_at buffer at [] ≡ buffer
+-- no piece at all
+pub writes_nothing : (text : Text) → Writes text text []
 unfolding put_at
-put_at_nothing buffer at = rw (append-nil, add-zero, take-append-drop)
+writes_nothing text = record { same = refl; room = refl; next = rw add-zero; leaves = rw (append-nil, add-zero, take-append-drop) }
 
 -- one byte
 pub put_at_byte : (buffer : List ℕ) (at b : ℕ) → at < length buffer → set buffer at b ≡ put_at buffer at (b ∷ [])

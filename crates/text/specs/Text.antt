@@ -1,6 +1,7 @@
 -- RULES 10.1: numbers as text, and the line that all programs print of what they refuse, as ASCII. Assumes nothing.
 use Rattle.std.specs.Prelude.{ℕ, zero, suc, ◌+◌, ◌/◌, ◌%◌, cond, List, [], ◌∷◌, ◌++◌, ltb, ℤ, pos, negsuc}
 use Rattle.rules.specs.declared.Answer.TheVariants.{Refused}
+use Rattle.rules.specs.Refusal.{refusal_numbered}
 use Rattle.rules.specs.Answer.{said}
 use Rattle.io.specs.Digits.{last_digits}
 
@@ -53,4 +54,4 @@ hexadecimal n = last_digits hex_base hex_digits n
 
 -- RULES 10.4: the line of what is refused, a day or a list: the word of a refused event, and the fault's number
 abbrev pub refused_line : ℕ → List ℕ
-refused_line fault = (said (Refused fault)).word ++ (space ∷ decimal fault) ++ (line_feed ∷ [])
+refused_line fault = (said (Refused (refusal_numbered fault))).word ++ (space ∷ decimal fault) ++ (line_feed ∷ [])

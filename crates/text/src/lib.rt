@@ -1,88 +1,99 @@
-// Text put into a buffer, piece by piece; each function answers where the next piece goes.
+// Text put into a buffer, piece by piece, each right behind the one before.
 #![tactic(auto)]
 
-ghost use Rattle.std.specs.Prelude.{◌≡◌, [], ◌∷◌, ◌+◌, length};
+ghost use Rattle.std.specs.Prelude.{◌≡◌, [], ◌∷◌};
 ghost use Rattle.rules.specs.Amount.{amount_of};
 ghost use Rattle.text.specs.Text.{space, decimal, signed, hexadecimal, refused_line};
-ghost use Rattle.text.specs.Put.{put_at, TextFits};
-
-use rules::amount::SIGN;
+ghost use Rattle.text.specs.Put.{Begins, bytes_put, Fits, Writes};
 
 // The digits of the largest number, in decimal and in hexadecimal.
 const DIGITS: usize = 20;
 
 const HEX_DIGITS: usize = 16;
 
-pub fn put_text(out: &mut [u8], at: usize, text: &[u8]) -> usize
-    requires { TextFits out.old at text.now }
-    ensures next { result ≡ at + length text.now }
-    ensures leaves { out.new ≡ put_at out.old at text.now }
-{
-    let end = at + text.len();
-    out[at..end].copy_from_slice(text);
-    end
+// A lent buffer, and the place in it where the next piece goes.
+#[derive(Drop)]
+pub struct Text<'a> {
+    out: &'a mut [u8],
+    at: usize,
 }
 
-pub fn put_byte(out: &mut [u8], at: usize, b: u8) -> usize
-    requires { TextFits out.old at (b ∷ []) }
-    ensures next { result ≡ at + 1 }
-    ensures leaves { out.new ≡ put_at out.old at (b ∷ []) }
-{
-    out[at] = b;
-    at + 1
-}
-
-pub fn put_number(out: &mut [u8], at: usize, n: u64) -> usize
-    requires { TextFits out.old at (decimal n) }
-    ensures next { result ≡ at + length (decimal n) }
-    ensures leaves { out.new ≡ put_at out.old at (decimal n) }
-{
-    let mut digits = [0u8; DIGITS];
-    let k = io::decimal(n, &mut digits);
-    put_text(out, at, &digits[..k])
-}
-
-// The number that a word is in two's complement. From SIGN on it is 2^64 less than the word.
-pub fn put_signed(out: &mut [u8], at: usize, word: u64) -> usize
-    requires { TextFits out.old at (signed (amount_of word)) }
-    ensures next { result ≡ at + length (signed (amount_of word)) }
-    ensures leaves { out.new ≡ put_at out.old at (signed (amount_of word)) }
-{
-    if word < SIGN {
-        return put_number(out, at, word);
+impl<'a> Text<'a> {
+    pub fn new(out: &'a mut [u8]) -> Text<'a>
+        ensures { Begins out.entry result }
+    {
+        Text { out, at: 0 }
     }
-    let next = put_byte(out, at, b'-');
-    put_number(out, next, SIGN - (word - SIGN))
-}
 
-// All digits of a word, zeros in front too.
-pub fn put_hexadecimal(out: &mut [u8], at: usize, word: u64) -> usize
-    requires { TextFits out.old at (hexadecimal word) }
-    ensures next { result ≡ at + length (hexadecimal word) }
-    ensures leaves { out.new ≡ put_at out.old at (hexadecimal word) }
-{
-    let mut digits = [0u8; HEX_DIGITS];
-    let k = io::hex(word, HEX_DIGITS, &mut digits);
-    put_text(out, at, &digits[..k])
-}
+    pub fn length(&self) -> usize
+        ensures { result ≡ bytes_put self.now }
+    {
+        self.at
+    }
 
-// A space and a number.
-pub fn put_spaced(out: &mut [u8], at: usize, n: u64) -> usize
-    requires { TextFits out.old at (space ∷ decimal n) }
-    ensures next { result ≡ at + length (space ∷ decimal n) }
-    ensures leaves { out.new ≡ put_at out.old at (space ∷ decimal n) }
-{
-    let next = put_byte(out, at, b' ');
-    put_number(out, next, n)
-}
+    pub fn put_text(&mut self, text: &[u8])
+        requires { Fits self.old text.now }
+        ensures { Writes self.old self.new text.now }
+    {
+        let end = self.at + text.len();
+        self.out[self.at..end].copy_from_slice(text);
+        self.at = end;
+    }
 
-// At the front of the buffer.
-pub fn put_refused(out: &mut [u8], fault: u64) -> usize
-    requires { TextFits out.old 0 (refused_line fault) }
-    ensures next { result ≡ length (refused_line fault) }
-    ensures leaves { out.new ≡ put_at out.old 0 (refused_line fault) }
-{
-    let word = put_text(out, 0, b"refused");
-    let numbered = put_spaced(out, word, fault);
-    put_byte(out, numbered, b'\n')
+    pub fn put_byte(&mut self, b: u8)
+        requires { Fits self.old (b ∷ []) }
+        ensures { Writes self.old self.new (b ∷ []) }
+    {
+        self.out[self.at] = b;
+        self.at += 1;
+    }
+
+    pub fn put_number(&mut self, n: u64)
+        requires { Fits self.old (decimal n) }
+        ensures { Writes self.old self.new (decimal n) }
+    {
+        let mut digits = [0; DIGITS];
+        let k = io::decimal(n, &mut digits);
+        self.put_text(&digits[..k]);
+    }
+
+    // The number that a word is in two's complement.
+    pub fn put_signed(&mut self, word: u64)
+        requires { Fits self.old (signed (amount_of word)) }
+        ensures { Writes self.old self.new (signed (amount_of word)) }
+    {
+        let number = word.cast_signed();
+        if number < 0 {
+            self.put_byte(b'-');
+        }
+        self.put_number(number.unsigned_abs());
+    }
+
+    // All digits of a word, zeros in front too. One function for both bases would take the call and its buffer's length.
+    pub fn put_hexadecimal(&mut self, word: u64)
+        requires { Fits self.old (hexadecimal word) }
+        ensures { Writes self.old self.new (hexadecimal word) }
+    {
+        let mut digits = [0; HEX_DIGITS];
+        let k = io::hex(word, HEX_DIGITS, &mut digits);
+        self.put_text(&digits[..k]);
+    }
+
+    // A space and a number.
+    pub fn put_spaced(&mut self, n: u64)
+        requires { Fits self.old (space ∷ decimal n) }
+        ensures { Writes self.old self.new (space ∷ decimal n) }
+    {
+        self.put_byte(b' ');
+        self.put_number(n);
+    }
+
+    pub fn put_refused(&mut self, fault: u64)
+        requires { Fits self.old (refused_line fault) }
+        ensures { Writes self.old self.new (refused_line fault) }
+    {
+        self.put_text(b"refused");
+        self.put_spaced(fault);
+        self.put_byte(b'\n');
+    }
 }

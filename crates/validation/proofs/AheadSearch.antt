@@ -1,52 +1,42 @@
--- The search for the first reader ahead as its loops go: the accounts of one action from the first on, and the actions from the first
--- number on. Assumes nothing.
-use Prim.Native.Nat.{ℕ, ◌+◌, ◌-◌, ◌≤◌, ◌<◌}
-use native.Mathlib.Omega.{arith}
-use mathlib.Core.Path.{◌≡◌}
-use mathlib.Core.Bool.{true, false}
-use mathlib.Core.List.{List}
-use Rattle.rules.specs.Range.{up_from}
-use Rattle.rules.specs.Card.{account_count}
-use Rattle.rules.specs.Table.{highest, actions}
-use Rattle.rules.specs.declared.Found.TheVariants.{Nothing, At}
-use Rattle.rules.specs.Ahead.{is_read_ahead, ahead_over, ahead_by, ahead_among, first_ahead}
-use Rattle.rules.proofs.Laws.Ranges.{left_next, left_done}
+-- The search for the first reader ahead by the library's `find` and `find_map`. Assumes nothing.
+use Prim.Native.Nat.{ℕ}
+use mathlib.Core.Path.{◌≡◌, refl, sym, ap, ◌∙◌}
+use mathlib.Core.Bool.{Bool, true, false, cond}
+use mathlib.Core.List.{List, [], ◌∷◌}
+use Rattle.std.specs.Prelude.{Option, Some, None}
+use Rattle.std.specs.List.{find}
+use Rattle.std.specs.Option.{option_map}
+use Rattle.rules.specs.declared.Found.{Found}
+use Rattle.rules.specs.Found.{found_at}
+use Rattle.rules.specs.Ahead.{is_read_ahead, ahead_over, ahead_by, ahead_among}
 
 module _ (w : List ℕ) (n : ℕ) where
-  module _ (m k : ℕ) where
-    pub over_here :
-        k < account_count → is_read_ahead w n m k ≡ true → ahead_over w n m (up_from k (account_count - k)) ≡ At m k
-    unfolding ahead_over
-    over_here inside met = rw (left_next k account_count inside, met)
+  -- the first account that is found, beside m
+  abbrev pub beside : ℕ → Option ℕ → Option Found
+  beside m = option_map (λ k. record { against = m; account = k })
 
-    pub over_next :
-        k < account_count → is_read_ahead w n m k ≡ false →
-        ahead_over w n m (up_from k (account_count - k)) ≡ ahead_over w n m (up_from (k + 1) (account_count - (k + 1)))
-    unfolding ahead_over
-    over_next inside unmet = rw (left_next k account_count inside, unmet)
+  by_account :
+      (m k : ℕ) (b : Bool) (rest : Option ℕ) → cond b (found_at m k) (beside m rest) ≡ beside m (cond b (Some k) rest)
+  by_account m k true rest = refl
+  by_account m k false rest = refl
 
-    pub over_done : account_count ≤ k → ahead_over w n m (up_from k (account_count - k)) ≡ Nothing
-    unfolding ahead_over
-    over_done all = rw (left_done k account_count all)
+  over_by_find : (m : ℕ) (l : List ℕ) → ahead_over w n m l ≡ beside m (find (is_read_ahead w n m) l)
+  unfolding ahead_over
+  over_by_find m [] = refl
+  over_by_find m (k ∷ ks) = rw (over_by_find m ks) (by_account m k (is_read_ahead w n m k) (find (is_read_ahead w n m) ks))
 
-  -- of the numbers from m on, below `end`
-  module _ (m end : ℕ) where
-    pub among_here :
-        {a k : ℕ} → m < end → ahead_by w n m ≡ At a k → ahead_among w n (up_from m (end - m)) ≡ At a k
-    unfolding ahead_among
-    among_here inside found = rw (left_next m end inside, found)
+  pub over_found : (m : ℕ) (l : List ℕ) {r o : Option ℕ} → r ≡ find (is_read_ahead w n m) l → r ≡ o → ahead_over w n m l ≡ beside m o
+  over_found m l found is = over_by_find m l ∙ ap (beside m) (sym found ∙ is)
 
-    pub among_next :
-        m < end → ahead_by w n m ≡ Nothing →
-        ahead_among w n (up_from m (end - m)) ≡ ahead_among w n (up_from (m + 1) (end - (m + 1)))
-    unfolding ahead_among
-    among_next inside none = rw (left_next m end inside, none)
+  -- the first of the actions that is one ahead decides
+  pub among_none : ahead_among w n [] ≡ None
+  unfolding ahead_among
+  among_none = refl
 
-    pub among_done : end ≤ m → ahead_among w n (up_from m (end - m)) ≡ Nothing
-    unfolding ahead_among
-    among_done all = rw (left_done m end all)
+  pub among_here : (m : ℕ) (l : List ℕ) (found : Found) → ahead_by w n m ≡ Some found → ahead_among w n (m ∷ l) ≡ Some found
+  unfolding ahead_among
+  among_here m l found is = rw is
 
-  -- from the first number on they are all
-  pub among_all : first_ahead w n ≡ ahead_among w n (up_from 1 (highest w + 1 - 1))
-  unfolding first_ahead actions
-  among_all = let e : highest w + 1 - 1 ≡ highest w = omega arith in rw e
+  pub among_next : (m : ℕ) (l : List ℕ) → ahead_by w n m ≡ None → ahead_among w n (m ∷ l) ≡ ahead_among w n l
+  unfolding ahead_among
+  among_next m l is = rw is

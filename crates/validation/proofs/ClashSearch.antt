@@ -4,7 +4,7 @@ use Prim.Native.Nat.{ℕ, zero, suc, ◌+◌, ◌-◌, ◌≤◌, ◌<◌}
 use native.Mathlib.Nat.{le_refl}
 use native.Mathlib.Omega.{arith}
 use native.Mathlib.Decide.{ℕ_discrete}
-use mathlib.Core.Path.{◌≡◌, refl, ◌∙◌}
+use mathlib.Core.Path.{◌≡◌, refl, sym, ◌∙◌}
 use mathlib.Core.Logic.{◌≢◌, ⊎_elim}
 use mathlib.Core.Bool.{Bool, true, false, cond, ◌&&◌}
 use mathlib.Core.List.{List, ◌∷◌}
@@ -12,16 +12,25 @@ use Rattle.rules.specs.Range.{up_from, filter, fold}
 use Rattle.rules.specs.Card.{account_count, accounts}
 use Rattle.rules.specs.Table.{highest, counter, parent_of, end_time, has_read, read_time, actions, is_record_of, records}
 use Rattle.rules.specs.declared.Found.{Found}
-use Rattle.rules.specs.declared.Found.TheVariants.{At}
+use Rattle.std.specs.Prelude.{Option, Some}
+use Rattle.rules.specs.Found.{found_at}
 use Rattle.rules.specs.Clash.{is_clash}
 use Rattle.rules.specs.Search.{is_sooner, next_after, search_accounts}
 use Rattle.rules.proofs.Laws.Tests.{cond_holds}
 use Rattle.rules.proofs.Laws.Ranges.{Within, left_next, left_done, fold_keeps, fold_left_next, fold_left_done}
 use Rattle.rules.proofs.Clash.Clashes.{in_records}
 use Rattle.rules.proofs.Clash.Records.{record_parent, next_after_finds, positive}
+use borrow.Author.Tests.{eqb-true}
+use lib.Dec.{eqb}
+use Rattle.rows.specs.Row.{numbered}
 use Rattle.rows.specs.Times.{sooner_read}
+use Rattle.rows.proofs.Numbered.{found_here}
 use Rattle.validation.specs.FirstRead.{first_read}
-use Rattle.validation.specs.NextRecord.{is_next_record}
+use Rattle.validation.specs.NextRecord.{is_next_record, number_or_none}
+
+number_numbered : (n : ℕ) → number_or_none (numbered n) ≡ n
+number_numbered n =
+    cond_holds (λ x. number_or_none x ≡ n) (eqb n 0) (λ zero. sym (eqb-true n 0 zero)) (λ _. refl)
 
 -- ---- the next record
 
@@ -51,6 +60,27 @@ module _ (w : List ℕ) (p t : ℕ) where
       taken true = refl
       taken false = refl
 
+  -- .. as the code holds the one found so far, where `m` is one past the action that is asked
+  module _ (m : ℕ) {next : Option ℕ} (some : 1 < m) (inside : m ≤ highest w + 1)
+      (so_far : next ≡ numbered (next_after w t (records_from w p m))) where
+    held : number_or_none next ≡ next_after w t (records_from w p m)
+    held = rw so_far (number_numbered (next_after w t (records_from w p m)))
+
+    scan_back :
+        next_after w t (records_from w p (m - 1))
+        ≡ cond (is_next_record w p t (m - 1) (number_or_none next)) (m - 1) (number_or_none next)
+    scan_back =
+        let back : m - 1 + 1 ≡ m = omega arith in
+        scan_next (m - 1) (number_or_none next) (omega arith) (rw back held)
+
+    pub scan_put :
+        is_next_record w p t (m - 1) (number_or_none next) ≡ true → Some (m - 1) ≡ numbered (next_after w t (records_from w p (m - 1)))
+    scan_put is = rw (scan_back, is) (found_here refl (omega arith))
+
+    pub scan_over :
+        is_next_record w p t (m - 1) (number_or_none next) ≡ false → next ≡ numbered (next_after w t (records_from w p (m - 1)))
+    scan_over not = rw (scan_back, not, held) so_far
+
   -- from the first start on they are all
   pub scan_done : next_after w t (records_from w p 1) ≡ next_after w t (records w p)
   unfolding records_from records actions
@@ -66,11 +96,11 @@ next_child w p t m e ne =
 
 -- ---- the accounts of record m from k on, where the later records have `rest`
 
-abbrev pub search_from : List ℕ → ℕ → ℕ → Found → ℕ → Found
+abbrev pub search_from : List ℕ → ℕ → ℕ → Option Found → ℕ → Option Found
 search_from w n m rest k = search_accounts w n m rest (up_from k (account_count - k))
 
-module _ (w : List ℕ) (n m : ℕ) (rest : Found) (k : ℕ) where
-  pub accounts_here : k < account_count → is_clash w n m k ≡ true → search_from w n m rest k ≡ At (end_time w m) k
+module _ (w : List ℕ) (n m : ℕ) (rest : Option Found) (k : ℕ) where
+  pub accounts_here : k < account_count → is_clash w n m k ≡ true → search_from w n m rest k ≡ found_at (end_time w m) k
   unfolding search_accounts
   accounts_here h e = rw (left_next k account_count h, e)
 

@@ -19,10 +19,7 @@ fn is_known_stale(table: &[u64], n: u64, p: u64, k: u64) -> bool
     ensures { result ≡ (has_read table.now n k
         && is_known_stale table.now p k (read_time table.now (kind_under p) n k)) }
 {
-    if !has_read(table, n, k) {
-        return false;
-    }
-    read_before_newest(table, n, p, k)
+    has_read(table, n, k) && read_before_newest(table, n, p, k)
 }
 
 pub(crate) fn is_known_clash(table: &[u64], n: u64) -> bool
@@ -31,10 +28,5 @@ pub(crate) fn is_known_clash(table: &[u64], n: u64) -> bool
     ensures { result ≡ is_known_clash table.now n }
 {
     let p = parent(table, n);
-    for k in 0..ACCOUNTS {
-        if is_known_stale(table, n, p, k) {
-            return true;
-        }
-    }
-    false
+    (0..ACCOUNTS).any(|k| is_known_stale(table, n, p, k))
 }

@@ -8,9 +8,9 @@ ghost use Rattle.rows.specs.Row.{HasRow};
 ghost use Rattle.rows.specs.Times.{IsTime};
 ghost use Rattle.validation.specs.FirstRead.{first_read};
 
-use crate::records::{NO_RECORD, next_record};
+use crate::records::next_record;
 use rows::fields::{has_read, has_written, kind_of, parent};
-use rows::times::{Time, counter, end_of, number_of, read_before_end, sooner_read};
+use rows::times::{Time, counter, end_of, read_before_end, sooner_read};
 use rules::Found;
 use rules::store::ACCOUNTS;
 
@@ -20,13 +20,7 @@ fn is_clash(table: &[u64], n: u64, m: u64, k: u64) -> bool
     requires account { IsAccount k }
     ensures { result ≡ is_clash table.now n m k }
 {
-    if !has_written(table, m, k) {
-        return false;
-    }
-    if !has_read(table, n, k) {
-        return false;
-    }
-    read_before_end(table, n, m, k)
+    has_written(table, m, k) && has_read(table, n, k) && read_before_end(table, n, m, k)
 }
 
 // Of n's kind, as the records of its parent are.
@@ -36,15 +30,12 @@ fn first_read(table: &[u64], n: u64) -> Time
     ensures { IsTime result (kind_of table.now n)
         (first_read table.now (kind_of table.now n) n) }
 {
-    let mut first = counter(table, kind_of(table, n));
-    for k in 0..ACCOUNTS {
-        first = sooner_read(table, n, k, first);
-    }
-    first
+    let latest = counter(table, kind_of(table, n));
+    (0..ACCOUNTS).fold(latest, |first, k| sooner_read(table, n, k, first))
 }
 
-// The search begins with what ended after n's first read.
-pub(crate) fn first_clash(table: &[u64], n: u64) -> Found
+// The search begins with what ended after n's first read. Labelled loops, and no find: docs/DECISIONS.md says why.
+pub(crate) fn first_clash(table: &[u64], n: u64) -> Option<Found>
     requires sound { Sound table.now }
     requires live_action { IsLiveAction table.now n }
     ensures { result ≡ first_clash table.now n }
@@ -52,20 +43,17 @@ pub(crate) fn first_clash(table: &[u64], n: u64) -> Found
     let p = parent(table, n);
     let mut last = first_read(table, n);
     'records: loop {
-        let m = next_record(table, p, last);
-        if m == NO_RECORD {
-            break 'records Found::Nothing;
-        }
+        let Some(m) = next_record(table, p, last) else {
+            break 'records None;
+        };
         last = end_of(table, m);
-        let mut k = 0;
-        'accounts: loop {
-            if ACCOUNTS <= k {
-                break 'accounts;
-            }
+        for k in 0..ACCOUNTS {
             if is_clash(table, n, m, k) {
-                break 'records Found::At(number_of(last), k);
+                break 'records Some(Found {
+                    against: u64::from(last),
+                    account: k,
+                });
             }
-            k += 1;
         }
     }
 }

@@ -11,18 +11,18 @@ use crate::search::first_clash;
 use rows::fields::is_forward;
 use rules::Found;
 
-pub fn clash_of(table: &[u64], n: u64) -> Found
+pub fn clash_of(table: &[u64], n: u64) -> Option<Found>
     requires sound { Sound table.now }
     requires live_action { IsLiveAction table.now n }
     ensures { result ≡ first_clash table.now n }
 {
     if !is_known_clash(table, n) {
-        return Found::Nothing;
+        return None;
     }
     first_clash(table, n)
 }
 
-pub fn commit_verdict(table: &[u64], n: u64) -> Found
+pub fn commit_verdict(table: &[u64], n: u64) -> Option<Found>
     requires sound { Sound table.now }
     requires live_action { IsLiveAction table.now n }
     ensures { result ≡ commit_verdict table.now n }

@@ -6,4 +6,4 @@ use Rattle.capi.proofs.mundzavch_look.Goals as goal
 
 pub slice_bounds-copy_from_slice-end : goal.slice_bounds-copy_from_slice-end
 slice_bounds-copy_from_slice-end c =
-    rw c.look-part.ensures.place.size (le_trans (look_at_most_card _ _ _ _ _) (omega arith))
+    rw c.look-looked.ensures.place.size (le_trans (look_at_most_card _ _ _ _ _) (omega arith))

@@ -13,12 +13,12 @@ ghost use Rattle.rows.specs.Ends.{has_no_newest, raised_end, raised_ends, IsOfCh
 
 use crate::fields::{has_written, kind_under};
 use crate::times::newest::read_before_newest;
-use crate::times::sub::{later_sub_end, sub_before, sub_in_row, sub_newest, sub_read};
-use crate::times::top::{later_top_end, top_before, top_in_row, top_newest, top_read};
+use crate::times::of_kind::{SubTime, TopTime};
 use crate::times::{Time, end_of};
 use crate::words::get;
+use rules::action::Kind;
 use rules::store::ACCOUNTS;
-use rules::table::{NEWEST_FIELDS, NO_END, TOP};
+use rules::table::{NEWEST_FIELDS, NO_END};
 
 // The words of a row: one for each account.
 pub const ENDS_LENGTH: usize = 32;
@@ -60,8 +60,8 @@ pub fn is_newest_by(table: &[u64], p: u64, k: u64, t: Time) -> bool
     ensures { result ≡ leb (newest table.now p k) (number_in t) }
 {
     match t {
-        Time::Top(t) => !top_before(t, top_newest(table, p, k)),
-        Time::Sub(t) => !sub_before(t, sub_newest(table, p, k)),
+        Time::Top(t) => TopTime::newest(table, p, k) <= t,
+        Time::Sub(t) => SubTime::newest(table, p, k) <= t,
     }
 }
 
@@ -70,8 +70,8 @@ fn later_end(own: Time, end: u64) -> u64
     ensures { result ≡ max (number_in own) end }
 {
     match own {
-        Time::Top(own) => later_top_end(own, end),
-        Time::Sub(own) => later_sub_end(own, end),
+        Time::Top(own) => u64::from(own.max(TopTime::in_row(end))),
+        Time::Sub(own) => u64::from(own.max(SubTime::in_row(end))),
     }
 }
 
@@ -118,19 +118,10 @@ fn read_before_row(table: &[u64], m: u64, p: u64, k: u64, end: u64) -> bool
     requires has_read { HasRead table.now m k }
     ensures { result ≡ ltb (read_time table.now (kind_under p) m k) end }
 {
-    if kind_under(p) == TOP {
-        return top_before(top_read(table, m, k), top_in_row(end));
+    match kind_under(p) {
+        Kind::Top => TopTime::read(table, m, k) < TopTime::in_row(end),
+        Kind::Sub => SubTime::read(table, m, k) < SubTime::in_row(end),
     }
-    sub_before(sub_read(table, m, k), sub_in_row(end))
-}
-
-fn are_alike(a: bool, b: bool) -> bool
-    ensures { result ≡ beq a b }
-{
-    if a {
-        return b;
-    }
-    !b
 }
 
 // m's read of the account is from before p's newest end time exactly where it is from before this end.
@@ -145,5 +136,5 @@ pub fn is_told_alike(table: &[u64], p: u64, m: u64, k: u64, end: u64) -> bool
 {
     let known = read_before_newest(table, m, p, k);
     let held = read_before_row(table, m, p, k, end);
-    are_alike(known, held)
+    known == held
 }

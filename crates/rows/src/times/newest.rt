@@ -8,9 +8,8 @@ ghost use Rattle.rows.specs.Row.{HasRow};
 ghost use Rattle.rows.specs.Times.{HasRead, IsChild};
 
 use crate::fields::kind_under;
-use crate::times::sub::{set_sub_newest, sub_before, sub_end, sub_newest, sub_read};
-use crate::times::top::{set_top_newest, top_before, top_end, top_newest, top_read};
-use rules::table::TOP;
+use crate::times::of_kind::{SubTime, TopTime};
+use rules::action::Kind;
 
 // n's read of the account is from before p's newest end time for it: the time of the read is that of the kind of p's children.
 pub fn read_before_newest(table: &[u64], n: u64, p: u64, k: u64) -> bool
@@ -20,15 +19,10 @@ pub fn read_before_newest(table: &[u64], n: u64, p: u64, k: u64) -> bool
     requires has_read { HasRead table.now n k }
     ensures { result ≡ ltb (read_time table.now (kind_under p) n k) (newest table.now p k) }
 {
-    let kind = kind_under(p);
-    if kind == TOP {
-        let read = top_read(table, n, k);
-        let newest = top_newest(table, p, k);
-        return top_before(read, newest);
+    match kind_under(p) {
+        Kind::Top => TopTime::read(table, n, k) < TopTime::newest(table, p, k),
+        Kind::Sub => SubTime::read(table, n, k) < SubTime::newest(table, p, k),
     }
-    let read = sub_read(table, n, k);
-    let newest = sub_newest(table, p, k);
-    sub_before(read, newest)
 }
 
 // p's newest end time for the account is that of its child n.
@@ -39,11 +33,8 @@ pub fn note_end(table: &mut [u64], n: u64, p: u64, k: u64)
     requires child { IsChild table.old n p }
     ensures { table.new ≡ with_newest table.old p k (end_time table.old n) }
 {
-    if kind_under(p) == TOP {
-        let end = top_end(table, n);
-        set_top_newest(table, p, k, end);
-        return;
+    match kind_under(p) {
+        Kind::Top => TopTime::end(table, n).set_newest(table, p, k),
+        Kind::Sub => SubTime::end(table, n).set_newest(table, p, k),
     }
-    let end = sub_end(table, n);
-    set_sub_newest(table, p, k, end);
 }

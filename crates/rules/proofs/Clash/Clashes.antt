@@ -12,7 +12,8 @@ use Rattle.rules.specs.Card.{account_count, accounts}
 use Rattle.rules.specs.Table.{highest, parent_of, kind_of, end_time, has_read, read_time, has_written, actions, is_record_of, records}
 use Rattle.rules.specs.Sound.{IsGiven}
 use Rattle.rules.specs.declared.Found.{Found}
-use Rattle.rules.specs.declared.Found.TheVariants.{Nothing, At}
+use Rattle.std.specs.Prelude.{Option, None}
+use Rattle.rules.specs.Found.{found_at}
 use Rattle.rules.specs.Clash.{is_clash, Pair, pairs_with, clashes_with, clashes, least, first_clash}
 use Rattle.rules.proofs.Laws.Tests.{and_left, and_right, and_false, not_both}
 use Rattle.rules.proofs.Laws.Ranges.{filter_only, filter_every}
@@ -125,23 +126,23 @@ pub record IsFirstOf (w : List ℕ) (P : Pair → Type 0) (t k : ℕ) : Type 0 w
   pub first : (c : Pair) → P c → Before t k (end_time w c.holder) c.account
 
 -- f names the first of the pairs with P, or says that there is none
-pub data Finds (w : List ℕ) (P : Pair → Type 0) : Found → Type 0 where
-  finds_none : ((c : Pair) → P c → ⊥) → Finds w P Nothing
-  finds_at : {t k : ℕ} → IsFirstOf w P t k → Finds w P (At t k)
+pub data Finds (w : List ℕ) (P : Pair → Type 0) : Option Found → Type 0 where
+  finds_none : ((c : Pair) → P c → ⊥) → Finds w P None
+  finds_at : {t k : ℕ} → IsFirstOf w P t k → Finds w P (found_at t k)
 
 -- the end times and accounts of the pairs with P
 abbrev pub TimesOf : List ℕ → (Pair → Type 0) → Pairs
 TimesOf w P t k = (holder : ℕ) × P (record { holder = holder; account = k }) × (end_time w holder ≡ t)
 
 module _ {w : List ℕ} {P : Pair → Type 0} where
-  nothing_found : Finds w P Nothing → (c : Pair) → P c → ⊥
+  nothing_found : Finds w P None → (c : Pair) → P c → ⊥
   nothing_found (finds_none h) = h
 
-  first_found : {t k : ℕ} → Finds w P (At t k) → IsFirstOf w P t k
+  first_found : {t k : ℕ} → Finds w P (found_at t k) → IsFirstOf w P t k
   first_found (finds_at h) = h
 
   -- as end times and accounts
-  finds_pair : {f : Found} → Finds w P f → FindsPair (TimesOf w P) f
+  finds_pair : {f : Option Found} → Finds w P f → FindsPair (TimesOf w P) f
   finds_pair (finds_none none) = no_pair (λ t k (holder, p, time). none _ p)
   finds_pair (finds_at h) =
       pair_at
@@ -150,18 +151,18 @@ module _ {w : List ℕ} {P : Pair → Type 0} where
         first = λ u l (holder, p, time). rw time at (h.first _ p);
       })
 
-  pair_finds : {f : Found} → FindsPair (TimesOf w P) f → Finds w P f
+  pair_finds : {f : Option Found} → FindsPair (TimesOf w P) f → Finds w P f
   pair_finds (no_pair none) = finds_none (λ c p. none _ _ (c.holder, p, refl))
   pair_finds (pair_at h) =
       let (holder, p, time) = h.has in
       finds_at (record { holder = holder; listed = p; time = time; first = λ c q. h.first _ _ (c.holder, q, refl) })
 
   -- there is at most one first
-  pub finds_once : {f g : Found} → Finds w P f → Finds w P g → f ≡ g
+  pub finds_once : {f g : Option Found} → Finds w P f → Finds w P g → f ≡ g
   finds_once p q = pair_once (finds_pair p) (finds_pair q)
 
   -- the same pairs have the same first
-  pub finds_same : {Q : Pair → Type 0} {f : Found} → ((c : Pair) → P c ↔ Q c) → Finds w P f → Finds w Q f
+  pub finds_same : {Q : Pair → Type 0} {f : Option Found} → ((c : Pair) → P c ↔ Q c) → Finds w P f → Finds w Q f
   finds_same same (finds_none h) = finds_none (λ c q. h c ((same c).1 q))
   finds_same same (finds_at h) =
       finds_at
@@ -199,9 +200,9 @@ module _ (w : List ℕ) (n : ℕ) where
   unfolding first_clash
   first_clash_finds = pair_finds (least_pair w (clashes w n))
 
-  pub first_clash_at : (t k : ℕ) → (first_clash w n ≡ At t k) ↔ IsFirst w n t k
+  pub first_clash_at : (t k : ℕ) → (first_clash w n ≡ found_at t k) ↔ IsFirst w n t k
   first_clash_at t k = (λ e. first_found (rw e at first_clash_finds), λ h. finds_once first_clash_finds (finds_at h))
 
-  pub first_clash_none : (first_clash w n ≡ Nothing) ↔ (clashes w n ≡ [])
+  pub first_clash_none : (first_clash w n ≡ None) ↔ (clashes w n ≡ [])
   unfolding first_clash least
   first_clash_none = (λ e. empty_of_no_member (clashes w n) (nothing_found (rw e at first_clash_finds)), λ e. rw e)

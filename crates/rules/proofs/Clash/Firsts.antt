@@ -8,7 +8,8 @@ use mathlib.Core.Bool.{true, false, ◌&&◌}
 use lib.Dec.{ltb, leb, eqb}
 use borrow.Author.Tests.{ltb-true, ltb-false, leb-true, leb-false, eqb-true, eqb-false}
 use Rattle.rules.specs.declared.Found.{Found}
-use Rattle.rules.specs.declared.Found.TheVariants.{Nothing, At}
+use Rattle.std.specs.Prelude.{Option, None}
+use Rattle.rules.specs.Found.{found_at}
 use Rattle.rules.specs.Clash.{is_before, earlier}
 use Rattle.rules.proofs.Laws.Tests.{and_left, and_right, or_cases, or_neither, test}
 
@@ -55,21 +56,21 @@ pub record IsFirstPair (P : Pairs) (t k : ℕ) : Type 0 where
   pub first : (u l : ℕ) → P u l → Before t k u l
 
 -- f names it, or says that there is none
-pub data FindsPair (P : Pairs) : Found → Type 0 where
-  no_pair : ((t k : ℕ) → P t k → ⊥) → FindsPair P Nothing
-  pair_at : {t k : ℕ} → IsFirstPair P t k → FindsPair P (At t k)
+pub data FindsPair (P : Pairs) : Option Found → Type 0 where
+  no_pair : ((t k : ℕ) → P t k → ⊥) → FindsPair P None
+  pair_at : {t k : ℕ} → IsFirstPair P t k → FindsPair P (found_at t k)
 
 module _ {P : Pairs} where
   -- there is at most one first
-  pub pair_once : {f g : Found} → FindsPair P f → FindsPair P g → f ≡ g
+  pub pair_once : {f g : Option Found} → FindsPair P f → FindsPair P g → f ≡ g
   pair_once (no_pair p) (no_pair q) = refl
   pair_once (no_pair p) (pair_at q) = absurd (p _ _ q.has)
   pair_once (pair_at p) (no_pair q) = absurd (q _ _ p.has)
   pair_once (pair_at p) (pair_at q) =
-      let same = before_antisym (p.first _ _ q.has) (q.first _ _ p.has) in ap₂ At same.0 same.1
+      let same = before_antisym (p.first _ _ q.has) (q.first _ _ p.has) in ap₂ found_at same.0 same.1
 
   -- the same pairs have the same first
-  pub pair_same : {Q : Pairs} {f : Found} → ((t k : ℕ) → P t k ↔ Q t k) → FindsPair P f → FindsPair Q f
+  pub pair_same : {Q : Pairs} {f : Option Found} → ((t k : ℕ) → P t k ↔ Q t k) → FindsPair P f → FindsPair Q f
   pair_same same (no_pair h) = no_pair (λ t k q. h t k ((same t k).1 q))
   pair_same same (pair_at h) =
       pair_at (record { has = (same _ _).0 h.has; first = λ u l q. h.first u l ((same u l).1 q) })
@@ -89,7 +90,7 @@ module _ {P : Pairs} (t k : ℕ) where
   old_first h before =
       record { has = inr h.has; first = λ v o. ⊎_elim (λ it. rw (it.0, it.1) before) (h.first v o) }
 
-  pub earlier_pair : {f : Found} → FindsPair P f → FindsPair (OrPair t k P) (earlier t k f)
+  pub earlier_pair : {f : Option Found} → FindsPair P f → FindsPair (OrPair t k P) (earlier t k f)
   earlier_pair (no_pair none) = pair_at (new_first (λ u l p. absurd (none u l p)))
   earlier_pair (pair_at {t = u} {k = l} h) =
       ⊎_elim

@@ -8,7 +8,7 @@ use mathlib.Core.List.{List, Memᴰ}
 use lib.Dec.{ltb}
 use borrow.Author.Tests.{ltb-true, lt-ltb}
 use Rattle.rules.specs.declared.Found.{Found}
-use Rattle.rules.specs.declared.Found.TheVariants.{Nothing, At}
+use Rattle.std.specs.Prelude.{Option, Some, None}
 use Rattle.rules.specs.Card.{account_count, accounts}
 use Rattle.rules.specs.Table.{parent_of, kind_of, end_time, has_read, read_time, has_written}
 use Rattle.rules.specs.Stale.{is_stale, is_known_stale, is_known_clash}
@@ -61,7 +61,7 @@ module _ (w : List ℕ) (n : ℕ) where
         is_known_stale w (parent_of w n) k (read_at k) ≡ is_stale w (parent_of w n) k (read_at k)
     told k = s.newest_true (parent_of w n) n k (parent_store_or_live s n lives.0 lives.1) lives (under_parent s n lives)
 
-    known_as_found : {found : Found} → Finds w (λ c. Memᴰ c (clashes w n)) found → is_known_clash w n ≡ not (is_clear found)
+    known_as_found : {found : Option Found} → Finds w (λ c. Memᴰ c (clashes w n)) found → is_known_clash w n ≡ not (is_clear found)
     unfolding is_known_clash accounts
     known_as_found (finds_none none) =
         not_any _ 0 account_count
@@ -85,9 +85,9 @@ pub known_clash : (w : List ℕ) → Sound w → (n : ℕ) → IsLiveAction w n 
 known_clash w s n lives = known_as_found w n s lives (first_clash_finds w n)
 
 -- so the records are searched only for a clash that is there
-pub known_clear : (w : List ℕ) → Sound w → (n : ℕ) → IsLiveAction w n → is_known_clash w n ≡ false → first_clash w n ≡ Nothing
+pub known_clear : (w : List ℕ) → Sound w → (n : ℕ) → IsLiveAction w n → is_known_clash w n ≡ false → first_clash w n ≡ None
 known_clear w s n lives none = go (first_clash w n) refl
   where
-    go : (found : Found) → first_clash w n ≡ found → first_clash w n ≡ Nothing
-    go Nothing e = e
-    go (At t k) e = absurd (true≢false (sym (rw e at (known_clash w s n lives)) ∙ none))
+    go : (found : Option Found) → first_clash w n ≡ found → first_clash w n ≡ None
+    go None e = e
+    go (Some f) e = absurd (true≢false (sym (rw e at (known_clash w s n lives)) ∙ none))

@@ -8,7 +8,8 @@ use mathlib.Core.Logic.{◌↔◌, ◌⊎◌, inl, inr, ⊎_elim}
 use mathlib.Core.Bool.{true, false}
 use mathlib.Core.List.{List}
 use Rattle.rules.specs.declared.Found.{Found}
-use Rattle.rules.specs.declared.Found.TheVariants.{Nothing, At}
+use Rattle.std.specs.Prelude.{Option, None}
+use Rattle.rules.specs.Found.{found_at}
 use Rattle.rules.specs.Range.{up_from}
 use Rattle.rules.specs.Card.{account_count, accounts}
 use Rattle.rules.specs.Table.{highest, actions}
@@ -19,7 +20,7 @@ use Rattle.rules.proofs.Clash.Firsts.{Before, Pairs, IsFirstPair, FindsPair, no_
 
 -- what is found first is the first, where all of the one kind come before all of the other
 or_else_finds :
-    {P Q : Pairs} {f g : Found} → ((t k u l : ℕ) → P t k → Q u l → t < u) → FindsPair P f → FindsPair Q g →
+    {P Q : Pairs} {f g : Option Found} → ((t k u l : ℕ) → P t k → Q u l → t < u) → FindsPair P f → FindsPair Q g →
     FindsPair (λ u l. P u l ⊎ Q u l) (or_else f g)
 or_else_finds sooner (no_pair none) found = pair_same (λ u l. (inr, ⊎_elim (λ p. absurd (none u l p)) (λ q. q))) found
 or_else_finds sooner (pair_at {t = t} {k = k} it) found =
@@ -131,17 +132,17 @@ module _ (w : List ℕ) (n : ℕ) where
       by_number it u l is (yes same) = inr (same, it.lowest_account l (rw same is))
       by_number it u l is (no other) = let low = it.lowest u l is in inl (omega arith)
 
-  pub first_ahead_at : (m k : ℕ) → (first_ahead w n ≡ At m k) ↔ IsFirstAhead w n m k
+  pub first_ahead_at : (m k : ℕ) → (first_ahead w n ≡ found_at m k) ↔ IsFirstAhead w n m k
   first_ahead_at m k = (
     λ e. (first_pair_ahead m k).0 (named (rw e at first_ahead_finds)),
     λ it. pair_once first_ahead_finds (pair_at ((first_pair_ahead m k).1 it)),
   )
     where
-      named : FindsPair (ReaderAhead w n) (At m k) → IsFirstPair (ReaderAhead w n) m k
+      named : FindsPair (ReaderAhead w n) (found_at m k) → IsFirstPair (ReaderAhead w n) m k
       named (pair_at it) = it
 
-  pub first_ahead_none : (first_ahead w n ≡ Nothing) ↔ ((m k : ℕ) → ReaderAhead w n m k → ⊥)
+  pub first_ahead_none : (first_ahead w n ≡ None) ↔ ((m k : ℕ) → ReaderAhead w n m k → ⊥)
   first_ahead_none = (λ e. none (rw e at first_ahead_finds), λ nobody. pair_once first_ahead_finds (no_pair nobody))
     where
-      none : FindsPair (ReaderAhead w n) Nothing → (m k : ℕ) → ReaderAhead w n m k → ⊥
+      none : FindsPair (ReaderAhead w n) None → (m k : ℕ) → ReaderAhead w n m k → ⊥
       none (no_pair nobody) = nobody

@@ -14,7 +14,7 @@ use Rattle.rules.specs.Card.{account_count, accounts}
 use Rattle.rules.specs.Table.{most_actions, highest, parent_of, kind_of, end_time, has_read, read_time, has_written, is_live, is_record_of, records}
 use Rattle.rules.specs.Sound.{IsGiven, Sound}
 use Rattle.rules.specs.declared.Found.{Found}
-use Rattle.rules.specs.declared.Found.TheVariants.{Nothing}
+use Rattle.std.specs.Prelude.{Option, None}
 use Rattle.rules.specs.Clash.{is_clash, Pair, first_clash}
 use Rattle.rules.specs.Search.{next_after, search_accounts, search_records, search}
 use Rattle.rules.proofs.Laws.Tests.{and_right, test, not_both}
@@ -52,7 +52,7 @@ module _ (w : List ℕ) (n m : ℕ) where
 
     -- where `rest` finds the first of those with Q, the search finds the first of those with m and of those with Q
     search_accounts_finds :
-        {rest : Found} → Finds w Q rest → (a j : ℕ) →
+        {rest : Option Found} → Finds w Q rest → (a j : ℕ) →
         Finds w (λ c. ClashWith a j c ⊎ Q c) (search_accounts w n m rest (up_from a j))
     unfolding search_accounts up_from
     search_accounts_finds found a zero = finds_same (λ c. (inr, ⊎_elim (λ r. absurd (omega arith)) (λ q. q))) found
@@ -72,7 +72,7 @@ abbrev ClashAfter : List ℕ → ℕ → ℕ → Pair → Type 0
 ClashAfter w n t c = IsClashing w n c × (t < end_time w c.holder)
 
 -- the search of the records with end times above t: as many rounds as there can be actions are enough at any t
-abbrev pub search_after : List ℕ → ℕ → ℕ → Found
+abbrev pub search_after : List ℕ → ℕ → ℕ → Option Found
 search_after w n t = search_records w n most_actions t
 
 clash_record : (w : List ℕ) (n : ℕ) (c : Pair) → IsClashing w n c → Memᴰ c.holder (records w (parent_of w n))
@@ -153,12 +153,12 @@ module _ (w : List ℕ) (n : ℕ) (s : Searchable w n) where
   round :
       (left t m : ℕ) → m ≡ next_after w t (records w (parent_of w n)) →
       search_records w n (suc left) t
-      ≡ cond (eqb m 0) Nothing (search_accounts w n m (search_records w n left (end_time w m)) accounts)
+      ≡ cond (eqb m 0) None (search_accounts w n m (search_records w n left (end_time w m)) accounts)
   unfolding search_records
   round left t m e = rw e
 
   -- there is no next record
-  pub search_none : (t m : ℕ) → m ≡ next_after w t (records w (parent_of w n)) → m ≡ 0 → search_after w n t ≡ Nothing
+  pub search_none : (t m : ℕ) → m ≡ next_after w t (records w (parent_of w n)) → m ≡ 0 → search_after w n t ≡ None
   search_none t m e z = rw (round (most_actions - 1) t m e, z)
 
   -- there is one: its accounts come first, then the records after it

@@ -6,7 +6,7 @@ use native.Mathlib.Decide.{ℕ_discrete}
 use mathlib.Core.Path.{◌≡◌, refl, sym, ap, ◌∙◌}
 use mathlib.Core.Logic.{◌≢◌}
 use mathlib.Core.Bool.{true, false}
-use Rattle.rules.specs.declared.Found.TheVariants.{Nothing}
+use Rattle.std.specs.Prelude.{None}
 use Rattle.rules.specs.Card.{is_charge}
 use Rattle.rules.specs.Table.{parent_of}
 use Rattle.rules.specs.Free.{next_number}
@@ -238,7 +238,7 @@ module _
         cases (no ne) = rw (put_elsewhere rest p (child (rest p) i n (c.block n)) 0 ne) rest_top
 
     pub pass_kept :
-        is_commit_outside s.table s.base n Nothing ≡ false → Proper s' → J.rule.pass s n → J.waits.Waiting s' →
+        is_commit_outside s.table s.base n None ≡ false → Proper s' → J.rule.pass s n → J.waits.Waiting s' →
         Kept J got ground opening s' (laid i c n)
     pass_kept fits proper' passed waiting' =
         let commits = abstract_commit kept.proper j refl fits in

@@ -6,7 +6,7 @@ use mathlib.Core.Path.{◌≡◌, ap, ◌∙◌}
 use mathlib.Core.Logic.{inl, inr, ⊎_elim}
 use mathlib.Core.Bool.{false}
 use mathlib.Core.List.{List}
-use Rattle.rules.specs.declared.Found.TheVariants.{Nothing}
+use Rattle.std.specs.Prelude.{None}
 use Rattle.rules.specs.Table.{parent_of, has_card}
 use Rattle.rules.specs.Ledger.{Ledger}
 use Rattle.rules.specs.Cause.{is_commit_outside}
@@ -27,7 +27,7 @@ use Rattle.rules.proofs.Demand.CommitLaid.{commit_base_laid, commit_effect_laid}
 
 module _
     {s : Ledger} (proper : Proper s) {n p : ℕ} (judged : Committable s.table n) (under : parent_of s.table n ≡ p)
-    (fits : is_commit_outside s.table s.base n Nothing ≡ false) where
+    (fits : is_commit_outside s.table s.base n None ≡ false) where
   -- the table after the commit
   abbrev table' : List ℕ
   table' = (committed_under s n p).table

@@ -6,7 +6,7 @@ use mathlib.Core.Path.{◌≡◌, sym, ap, ◌∙◌}
 use mathlib.Core.Logic.{◌≢◌}
 use mathlib.Core.Bool.{true, false, cond}
 use lib.IntN.{◌+ℤ◌}
-use Rattle.rules.specs.declared.Found.TheVariants.{Nothing}
+use Rattle.std.specs.Prelude.{None}
 use Rattle.rules.specs.Card.{account_count, first_charge, IsCharge, base_place, shadow_place, card_at}
 use Rattle.rules.specs.Amount.{amount_of, is_amount, amount_in, with_amount, base_amount}
 use Rattle.rules.specs.Table.{parent_of, write_entry, entered, has_written, pending_word, pending_sum}
@@ -33,7 +33,7 @@ use Rattle.rules.proofs.Demand.CommitCards.{by_write_set, commit_base_length, co
 
 module _
     {s : Ledger} (proper : Proper s) {n p : ℕ} (judged : Committable s.table n) (under : parent_of s.table n ≡ p)
-    (fits : is_commit_outside s.table s.base n Nothing ≡ false) (k : ℕ) where
+    (fits : is_commit_outside s.table s.base n None ≡ false) (k : ℕ) where
   -- k is in n's write set, or it isn't
   abbrev Written : Type 0
   Written = has_written s.table n k ≡ true

@@ -5,7 +5,7 @@ use mathlib.Core.Path.{◌≡◌}
 use mathlib.Core.Bool.{true}
 use mathlib.Core.List.{List}
 use lib.IntN.{◌+ℤ◌}
-use Rattle.rules.specs.declared.Found.TheVariants.{Nothing}
+use Rattle.std.specs.Prelude.{None}
 use Rattle.rules.specs.Card.{first_charge, IsCharge, IsCard}
 use Rattle.rules.specs.Amount.{is_amount, amount_in}
 use Rattle.rules.specs.Table.{aborted, parent_of, with_state, pending_sum, rule_of}
@@ -29,7 +29,7 @@ pub record JudgingRule : Type 1 where
   pub rule : Rule abstraction
   pub passes :
       (s : Ledger) → Proper s → (n : ℕ) → Committable s.table n → rule_of s.table ≡ number →
-      commit_verdict s.table n ≡ Nothing → rule.pass s n
+      commit_verdict s.table n ≡ None → rule.pass s n
   pub at_start : (s : Ledger) → Proper s → (p : ℕ) → Startable s.table p → rule.CalmFacts s (start s p).after
   pub at_read : (s : Ledger) → Proper s → (n k : ℕ) → Touchable s.table n k → rule.CalmFacts s (read s n k).after
   pub at_write :

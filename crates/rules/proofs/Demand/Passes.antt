@@ -7,7 +7,7 @@ use mathlib.Core.List.{Memᴰ}
 use lib.Dec.{ltb}
 use borrow.Author.Tests.{lt-ltb}
 use Rattle.rules.specs.Table.{parent_of, kind_of, end_time, read_time}
-use Rattle.rules.specs.declared.Found.TheVariants.{Nothing}
+use Rattle.std.specs.Prelude.{None}
 use Rattle.rules.specs.Clash.{clashes, first_clash}
 use Rattle.rules.specs.Ledger.{Ledger}
 use Rattle.rules.proofs.Laws.Tests.{and_both}
@@ -34,6 +34,6 @@ stale_clashes s n k has st =
       clash = and_both (and_both st.written (read_entered s.table n k has)) before;
     })
 
-pub no_clash_passes : (s : Ledger) (n : ℕ) → first_clash s.table n ≡ Nothing → Passes (abstraction s) (Stale s) n
+pub no_clash_passes : (s : Ledger) (n : ℕ) → first_clash s.table n ≡ None → Passes (abstraction s) (Stale s) n
 no_clash_passes s n clear k has st =
     Memᴰ.not-nil (rw ((first_clash_none s.table n).0 clear) at (stale_clashes s n k has st))

@@ -7,7 +7,7 @@ use mathlib.Core.Logic.{◌≢◌, ⊎_elim}
 use mathlib.Core.Bool.{true, false, not}
 use mathlib.Core.List.{List}
 use borrow.Author.Tests.{ne_eqb}
-use Rattle.rules.specs.declared.Found.TheVariants.{Nothing}
+use Rattle.std.specs.Prelude.{None}
 use Rattle.rules.specs.Table.{parent_of, has_written}
 use Rattle.rules.specs.Walk.{is_at_or_below}
 use Rattle.rules.specs.Sound.{StoreOrLive, Sound}
@@ -54,7 +54,7 @@ module _ (s : Ledger) (proper : Proper s) (n : ℕ) (j : Committable s.table n) 
       (and_both (below_under s proper below)
       (ap not (not_below proper.sound j B (given.1, λ _. alive) other)))
 
-  pub none_ahead_passes : first_ahead w n ≡ Nothing → NoneAhead (abstraction s) n
+  pub none_ahead_passes : first_ahead w n ≡ None → NoneAhead (abstraction s) n
   none_ahead_passes clear B k below other has =
       ⊎_elim
       (λ written.

@@ -11,11 +11,12 @@ use Rattle.rules.specs.Cause.{store_causes, causes_of, cause_of, later_cause}
 use Rattle.rules.specs.Step.{Outcome, act, step}
 use Rattle.rules.proofs.Sound.Soundness.{tested}
 use Rattle.rules.proofs.Demand.Proper.{Proper}
+use Rattle.rules.specs.Refusal.{refusal_numbered}
 
 unfoldable pub proper_step : Ledger → Event → Outcome
 proper_step s e =
     let cause = later_cause s.table s.base e in
-    cond (eqb cause 0) (act s e) (record { answer = Refused cause; after = s })
+    cond (eqb cause 0) (act s e) (record { answer = Refused (refusal_numbered cause); after = s })
 
 module _ (s : Ledger) (proper : Proper s) (e : Event) where
   pub same_cause : cause_of s.table s.base s.shadow e ≡ later_cause s.table s.base e

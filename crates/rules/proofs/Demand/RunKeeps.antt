@@ -6,7 +6,7 @@ use mathlib.Core.Bool.{Bool, true, false}
 use mathlib.Core.List.{List, [], ◌∷◌}
 use lib.IntN.{◌+ℤ◌}
 use Rattle.rules.specs.declared.Found.{Found}
-use Rattle.rules.specs.declared.Found.TheVariants.{Nothing, At}
+use Rattle.std.specs.Prelude.{Option, Some, None}
 use Rattle.rules.specs.Card.{first_charge, IsCharge, IsCard}
 use Rattle.rules.specs.Amount.{is_amount, amount_in}
 use Rattle.rules.specs.Table.{pending_sum, rule_of, is_forward}
@@ -100,13 +100,13 @@ module _
   -- a commit event: nobody of its kind waits
   judges :
       Committable s.table e.number → queue_length s.table (kind_of s.table e.number) ≡ 0 →
-      (f : Found) → commit_verdict s.table e.number ≡ f →
+      (f : Option Found) → commit_verdict s.table e.number ≡ f →
       is_commit_outside s.table s.base e.number f ≡ false → KeptAfter (judged s e.number f) []
   unfolding KeptAfter judged collect_one commits_at stepped laid_all
-  judges j empty Nothing clear fits proper' seen below =
+  judges j empty None clear fits proper' seen below =
       pass_kept J got ground opening kept i e.number j fits proper' (J.passes s kept.proper e.number j ruled clear)
       (J.waits.waits_commit s kept.proper e.number j empty kept.waiting)
-  judges j empty (At a k) found fits proper' seen below =
+  judges j empty (Some f) found fits proper' seen below =
       drop_kept J got ground opening kept i _ proper'
       (fail_drops s kept.proper e.number j) (J.at_failed_commit s kept.proper e.number j)
       (J.waits.waits_fail s kept.proper e.number j kept.waiting)

@@ -9,7 +9,7 @@ use mathlib.Core.List.{List, [], ◌∷◌, ◌++◌, map}
 use lib.Dec.{eqb}
 use borrow.Author.Tests.{eq-eqb, not-true}
 use Rattle.rules.specs.declared.Found.{Found}
-use Rattle.rules.specs.declared.Found.TheVariants.{Nothing, At}
+use Rattle.std.specs.Prelude.{Option, Some, None}
 use Rattle.rules.specs.Range.{any, filter}
 use Rattle.rules.specs.Card.{account_count, accounts}
 use Rattle.rules.specs.Kind.{IsKind}
@@ -105,9 +105,9 @@ module _ (s : Ledger) (proper : Proper s) where
         by_verdict true fine = refl
         by_verdict false fine = sym fine
 
-    clear_none : (f : Found) → is_clear f ≡ true → f ≡ Nothing
-    clear_none Nothing clear = refl
-    clear_none (At t k) clear = absurd (false≢true clear)
+    clear_none : (f : Option Found) → is_clear f ≡ true → f ≡ None
+    clear_none None clear = refl
+    clear_none (Some f) clear = absurd (false≢true clear)
 
     abbrev newest : Entry
     newest = new_entry n (verdict_of w h n)

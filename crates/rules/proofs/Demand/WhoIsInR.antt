@@ -11,7 +11,7 @@ use lib.IntN.{◌+ℤ◌}
 use lib.ListN.{length}
 use Rattle.rules.specs.declared.Answer.TheVariants.{Refused}
 use Rattle.rules.specs.declared.Found.{Found}
-use Rattle.rules.specs.declared.Found.TheVariants.{Nothing, At}
+use Rattle.std.specs.Prelude.{Option, Some, None}
 use Rattle.rules.specs.Card.{first_charge, IsCharge, IsCard, base_length, shadow_length}
 use Rattle.rules.specs.Amount.{is_amount, amount_in}
 use Rattle.rules.specs.Table.{state_field, parent_of, kind_of, pending_sum}
@@ -52,12 +52,13 @@ use Rattle.rules.proofs.Demand.Views.{change_keeps_proper}
 use Rattle.rules.proofs.Demand.LeaversKept.{spared, fail_proper}
 use Rattle.rules.proofs.Demand.CommitTable.{table_change, still_alive_other}
 use Rattle.rules.proofs.Demand.CommitChange.{committed_proper, abstract_commit}
+use Rattle.rules.specs.Refusal.{refusal_numbered}
 
 -- ---- a commit that passes
 
 module _
     {s : Ledger} (proper : Proper s) {n : ℕ} (j : Committable s.table n)
-    (fits : is_commit_outside s.table s.base n Nothing ≡ false) where
+    (fits : is_commit_outside s.table s.base n None ≡ false) where
   abbrev p : ℕ
   p = parent_of s.table n
 
@@ -139,7 +140,7 @@ module _ (s : Ledger) (proper : Proper s) (e : Event) where
   AsTold : Outcome → List ℕ → Type 0
   AsTold o leavers = Tells (abstraction s) (abstraction o.after) e (told o.answer leavers)
 
-  refused : AsTold (record { answer = Refused (cause_in s e); after = s }) []
+  refused : AsTold (record { answer = Refused (refusal_numbered (cause_in s e)); after = s }) []
   unfolding AsTold
   refused = record { tree' = abstract_tree s proper; parent_kept = λ X x. refl; lives = λ X l. l }
 
@@ -182,11 +183,11 @@ module _ (s : Ledger) (proper : Proper s) (e : Event) where
       change_tells w.change (w.nobody_new, w.writer_live)
 
   judges :
-      Committable s.table e.number → (f : Found) → is_commit_outside s.table s.base e.number f ≡ false →
+      Committable s.table e.number → (f : Option Found) → is_commit_outside s.table s.base e.number f ≡ false →
       AsTold (judged s e.number f) []
   unfolding AsTold judged
-  judges j Nothing fits = change_tells (abstract_commit proper j refl fits).change (commit_ends proper j fits)
-  judges j (At t k) fits = let d = fail_drops s proper e.number j in change_tells d.still d.nobody_new
+  judges j None fits = change_tells (abstract_commit proper j refl fits).change (commit_ends proper j fits)
+  judges j (Some f) fits = let d = fail_drops s proper e.number j in change_tells d.still d.nobody_new
 
   -- the queue of its action
   abbrev h : ℕ

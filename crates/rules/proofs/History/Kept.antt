@@ -3,7 +3,7 @@ use Prim.Native.Nat.{ℕ, ◌<◌}
 use mathlib.Core.Path.{refl}
 use mathlib.Core.List.{List, []}
 use Rattle.rules.specs.declared.Found.{Found}
-use Rattle.rules.specs.declared.Found.TheVariants.{Nothing, At}
+use Rattle.std.specs.Prelude.{Option, Some, None}
 use Rattle.rules.specs.Card.{first_charge, IsCharge, IsCard}
 use Rattle.rules.specs.Table.{parent_of, kind_of}
 use Rattle.rules.specs.Event.{Event}
@@ -59,10 +59,10 @@ module _ {s : Ledger} (proper : Proper s) (e : Event) {had : History} (remembers
   adds permitted charge fits =
       entering_remembers proper remembers (add_enters s proper n k permitted charge e.card fits.pending_fits)
 
-  judges : Committable s.table n → (f : Found) → RemembersAfter (judged s n f) []
+  judges : Committable s.table n → (f : Option Found) → RemembersAfter (judged s n f) []
   unfolding RemembersAfter judged commits_at with_records without_given
-  judges free Nothing = commit_remembers proper free refl remembers _ (λ g inside. refl)
-  judges free (At t j) = fail_remembers proper remembers n free
+  judges free None = commit_remembers proper free refl remembers _ (λ g inside. refl)
+  judges free (Some f) = fail_remembers proper remembers n free
 
   enters : Committable s.table n → RemembersAfter (enter s n) []
   unfolding RemembersAfter enter enter_table with_tail commits_at with_records without_given

@@ -1,5 +1,6 @@
 -- The first clash with the records that are in the table is the first with all that the parent has had: the pairs of end time and
 -- account are the same. Assumes nothing.
+use Rattle.std.specs.Prelude.{Option}
 use Prim.Native.Nat.{ℕ, ◌<◌}
 use native.Mathlib.Omega.{arith}
 use mathlib.Core.Path.{◌≡◌, refl, sym, ap, ◌∙◌}
@@ -34,7 +35,7 @@ use Rattle.rules.proofs.History.Remembered.{Remembers}
 abbrev OrAt : ℕ → List ℕ → Pairs → Pairs
 OrAt t ks P u l = ((u ≡ t) × Memᴰ l ks) ⊎ P u l
 
-earliest_pair : {P : Pairs} (t : ℕ) (ks : List ℕ) {found : Found} → FindsPair P found → FindsPair (OrAt t ks P) (earliest t ks found)
+earliest_pair : {P : Pairs} (t : ℕ) (ks : List ℕ) {found : Option Found} → FindsPair P found → FindsPair (OrAt t ks P) (earliest t ks found)
 unfolding earliest
 earliest_pair t [] first = pair_same (λ u l. (inr, ⊎_elim (λ at. absurd (Memᴰ.not-nil at.1)) (λ p. p))) first
 earliest_pair {P} t (k ∷ ks) first = pair_same same (earlier_pair t k (earliest_pair t ks first))

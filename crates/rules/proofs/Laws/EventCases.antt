@@ -14,6 +14,7 @@ use Rattle.rules.specs.Ledger.{Ledger}
 use Rattle.rules.specs.Step.{Outcome, start, read, write, commit, add, enter, judge_left, judge, abort_left, abort, act, step, act_leavers, leavers_at}
 use Rattle.rules.proofs.Laws.Tests.{cond_holds}
 use Rattle.rules.proofs.Laws.Allowed.{Allowed, allowed}
+use Rattle.rules.specs.Refusal.{refusal_numbered}
 
 abbrev pub cause_in : Ledger → Event → ℕ
 cause_in s e = cause_of s.table s.base s.shadow e
@@ -27,14 +28,14 @@ OfStep = Outcome → List ℕ → Type 0
 
 module _ (s : Ledger) (e : Event) (P : OfStep) where
   pub step_by_cause :
-      P (record { answer = Refused (cause_in s e); after = s }) [] → (AllowedIn s e → P (act s e) (act_leavers s e)) →
+      P (record { answer = Refused (refusal_numbered (cause_in s e)); after = s }) [] → (AllowedIn s e → P (act s e) (act_leavers s e)) →
       P (step s e) (leavers_at s e)
   unfolding step leavers_at
   step_by_cause p q = by_cause (eqb (cause_in s e) 0) refl
     where
       by_cause :
           (b : Bool) → eqb (cause_in s e) 0 ≡ b →
-          P (cond b (act s e) (record { answer = Refused (cause_in s e); after = s })) (cond b (act_leavers s e) [])
+          P (cond b (act s e) (record { answer = Refused (refusal_numbered (cause_in s e)); after = s })) (cond b (act_leavers s e) [])
       by_cause true zero = q (allowed s.table s.base s.shadow e (eqb-true _ 0 zero))
       by_cause false _ = p
 

@@ -10,7 +10,7 @@ use lib.IntN.{◌+ℤ◌}
 use borrow.Author.Tests.{eqb-true, eq-eqb}
 use Rattle.rules.specs.declared.Answer.TheVariants.{Refused}
 use Rattle.rules.specs.declared.Found.{Found}
-use Rattle.rules.specs.declared.Found.TheVariants.{Nothing}
+use Rattle.std.specs.Prelude.{Option, None}
 use Rattle.rules.specs.Card.{account_count, first_charge, charge_count, is_charge, charge_accounts, IsCharge, IsCard}
 use Rattle.rules.specs.Amount.{is_amount, amount_in}
 use Rattle.rules.specs.Table.{highest, parent_of, kind_of, has_written, pending_sum, own_adds, kept_after, counter, last_time, is_live, is_live_child_of, has_live_child, actions, is_forward}
@@ -27,6 +27,7 @@ use Rattle.rules.proofs.Laws.Tests.{and_both, not_both, or_inl, or_inr, not_fail
 use Rattle.rules.proofs.Laws.Ranges.{not_any_at}
 use Rattle.rules.proofs.Laws.Sets.{charge_within}
 use Rattle.rules.proofs.Laws.EventCases.{cause_in, AllowedIn, OfStep, step_by_cause, act_by_kind, no_start, no_judge_or_abort}
+use Rattle.rules.specs.Refusal.{refusal_numbered}
 
 -- an action may start under p: p is the store or live and isn't queued, and there is a number left
 pub record Startable (w : List ℕ) (p : ℕ) : Type 0 where
@@ -147,14 +148,14 @@ module _ {s : Ledger} {e : Event} (a : AllowedIn s e) where
 -- What holds of a refused event, and of an event of each kind where it is permitted, holds of the event.
 module _ (s : Ledger) (e : Event) (P : OfStep) where
   pub step_by_kind :
-      P (record { answer = Refused (cause_in s e); after = s }) [] →
+      P (record { answer = Refused (refusal_numbered (cause_in s e)); after = s }) [] →
       (Startable s.table e.number → P (start s e.number) []) →
       (Touchable s.table e.number e.account → is_read_outside s.table s.base e.number e.account ≡ false →
       P (read s e.number e.account) []) →
       (Touchable s.table e.number e.account → IsCard e.card → e.account < first_charge →
       P (write s e.number e.account e.card) []) →
       (Committable s.table e.number → queue_length s.table (kind_of s.table e.number) ≡ 0 →
-      (f : Found) → commit_verdict s.table e.number ≡ f →
+      (f : Option Found) → commit_verdict s.table e.number ≡ f →
       is_commit_outside s.table s.base e.number f ≡ false → P (judged s e.number f) []) →
       (Touchable s.table e.number e.account → IsCard e.card → IsCharge e.account →
       AddFits s.table e.number e.account e.card → P (add s e.number e.account e.card) []) →
@@ -204,7 +205,7 @@ module _ (w base : List ℕ) (n : ℕ) where
 
   -- of a commit that passes: neither sum of a charge account is outside
   sums_inside :
-      is_commit_outside w base n Nothing ≡ false →
+      is_commit_outside w base n None ≡ false →
       (k : ℕ) → IsCharge k → (is_copy_outside w base n k ≡ false) × (is_kept_outside w n k ≡ false)
   unfolding is_commit_outside charge_accounts
   sums_inside fits k charge =
@@ -213,14 +214,14 @@ module _ (w base : List ℕ) (n : ℕ) where
 
   -- what is copied of one in the write set
   pub commit_sum_fits :
-      is_commit_outside w base n Nothing ≡ false →
+      is_commit_outside w base n None ≡ false →
       (k : ℕ) → IsCharge k → has_written w n k ≡ true → is_amount (commit_sum w base n k) ≡ true
   commit_sum_fits fits k charge written =
       (not_fails _).0 ((and_fails (has_written w n k) _).0 (sums_inside fits k charge).0 written)
 
   -- what is kept, of any
   pub kept_sum_fits :
-      is_commit_outside w base n Nothing ≡ false →
+      is_commit_outside w base n None ≡ false →
       (k : ℕ) → IsCharge k → is_amount (kept_after w n (parent_of w n) k) ≡ true
   kept_sum_fits fits k charge = (not_fails _).0 (sums_inside fits k charge).1
 

@@ -297,18 +297,6 @@ left_done a end h = let e : end - a ≡ 0 = omega arith in rw e
 
 module _ (f : ℕ → Bool) (a end : ℕ) where
   -- the first of what is left decides, or it is passed over
-  pub any_left_here : a < end → f a ≡ true → any f (up_from a (end - a)) ≡ true
-  unfolding any
-  any_left_here h p = rw (left_next a end h, p)
-
-  pub any_left_next : a < end → f a ≡ false → any f (up_from a (end - a)) ≡ any f (up_from (a + 1) (end - (a + 1)))
-  unfolding any
-  any_left_next h p = rw (left_next a end h, p)
-
-  pub any_left_done : end ≤ a → any f (up_from a (end - a)) ≡ false
-  unfolding any
-  any_left_done h = rw (left_done a end h)
-
   pub all_left_here : a < end → f a ≡ false → all f (up_from a (end - a)) ≡ false
   unfolding all
   all_left_here h p = rw (left_next a end h, p)

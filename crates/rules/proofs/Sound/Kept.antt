@@ -14,7 +14,7 @@ use Rattle.rules.specs.Queue.{queue, is_queued, without_below}
 use Rattle.rules.specs.Sound.{is_bounded, are_distinct, queue_numbers, is_sound_queue, sound, Sound, is_newest_in_time, are_newest_true}
 use Rattle.rules.specs.Event.{Event}
 use Rattle.rules.specs.declared.Found.{Found}
-use Rattle.rules.specs.declared.Found.TheVariants.{Nothing, At}
+use Rattle.std.specs.Prelude.{Option, Some, None}
 use Rattle.rules.specs.Ledger.{Ledger}
 use Rattle.rules.specs.Step.{Outcome, start, read, write, add, judged, enter_table, enter, is_judged_failed, revealed, judge_left, judge, dropped, abort_left, abort, step}
 use Rattle.rules.proofs.Laws.Tests.{cond_holds}
@@ -67,10 +67,10 @@ module _ (s : Ledger) (was : Sound s.table) (n : ℕ) where
   unfolding add
   add_sound k card p charge = by_change _ (add_change s.table was n k p.own p.alive charge _)
 
-  judged_sound : Committable s.table n → (f : Found) → Sounds (judged s n f) []
+  judged_sound : Committable s.table n → (f : Option Found) → Sounds (judged s n f) []
   unfolding judged
-  judged_sound j Nothing = by_change _ (commit_change s was n j)
-  judged_sound j (At t k) = by_change _ (fail_change s.table was n j)
+  judged_sound j None = by_change _ (commit_change s was n j)
+  judged_sound j (Some f) = by_change _ (fail_change s.table was n j)
 
   enter_sound : Committable s.table n → Sounds (enter s n) []
   unfolding enter enter_table

@@ -9,7 +9,7 @@ use mathlib.Core.List.{List, [], ◌∷◌}
 use lib.Dec.{eqb}
 use borrow.Author.Tests.{eqb-true}
 use Rattle.rules.specs.declared.Found.{Found}
-use Rattle.rules.specs.declared.Found.TheVariants.{Nothing, At}
+use Rattle.std.specs.Prelude.{Option, Some, None}
 use Rattle.rules.specs.Card.{IsCharge}
 use Rattle.rules.specs.Kind.{IsKind, top_kind, sub_kind}
 use Rattle.rules.specs.Table.{rule_of, backward_rule, forward_rule, parent_of, kind_of}
@@ -94,10 +94,10 @@ module _ (s : Ledger) (sound : Sound s.table) (n : ℕ) where
   unfolding add
   adds k card p charge = (add_change s.table sound n k p.own p.alive charge _).same_rule
 
-  judges : Committable s.table n → (f : Found) → KeepsRule (judged s n f) []
+  judges : Committable s.table n → (f : Option Found) → KeepsRule (judged s n f) []
   unfolding judged
-  judges j Nothing = (commit_change s sound n j).same_rule
-  judges j (At a k) = (fail_change s.table sound n j).same_rule
+  judges j None = (commit_change s sound n j).same_rule
+  judges j (Some f) = (fail_change s.table sound n j).same_rule
 
   enters : Committable s.table n → KeepsRule (enter s n) []
   unfolding enter enter_table

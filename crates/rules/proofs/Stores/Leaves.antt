@@ -26,7 +26,7 @@ pub still_fit : {s t : Ledger} → SameLengths s t → LedgerFits s → LedgerFi
 still_fit same fits =
     record { base_fits = same.of_base ∙ fits.base_fits; shadow_fits = same.of_shadow ∙ fits.shadow_fits }
 
--- the ledger t, after s, where byte i of the base store may have changed if inBase i, and of the shadow store if inShadow i
+-- the ledger t, after s, where byte i of the base store may have changed if in_base i, and of the shadow store if in_shadow i
 pub record Leaves (in_base in_shadow : ℕ → Bool) (s t : Ledger) : Type 0 where
   pub lengths : SameLengths s t
   pub keeps_base : (i : ℕ) → in_base i ≡ false → get_or t.base i 0 ≡ get_or s.base i 0

@@ -7,7 +7,7 @@ use mathlib.Core.List.{List, []}
 use borrow.Author.Tests.{eqb-true}
 use Rattle.rules.specs.declared.Answer.TheVariants.{Read, ReadSum}
 use Rattle.rules.specs.declared.Found.{Found}
-use Rattle.rules.specs.declared.Found.TheVariants.{Nothing, At}
+use Rattle.std.specs.Prelude.{Option, Some, None}
 use Rattle.rules.specs.declared.Version.{Version}
 use Rattle.rules.specs.Card.{is_charge, base_place, card_at}
 use Rattle.rules.specs.Amount.{amount_of, amount_word}
@@ -50,10 +50,10 @@ module _ (s : Ledger) (e : Event) where
       tells_read (told o.answer leavers) ≡ true →
       AllowedIn s e × (is_read e ≡ true) × (o.answer ≡ read_answer s.table s.base e.number e.account)
 
-  committed_other : (f : Found) → OfRead (judged s e.number f) []
+  committed_other : (f : Option Found) → OfRead (judged s e.number f) []
   unfolding judged
-  committed_other Nothing tells = absurd (false≢true tells)
-  committed_other (At t k) tells = absurd (false≢true tells)
+  committed_other None tells = absurd (false≢true tells)
+  committed_other (Some f) tells = absurd (false≢true tells)
 
   judge_tells_no_read : (failed : Bool) (left : ℕ) (leavers : List ℕ) → tells_read (told (judge_answer failed left) leavers) ≡ false
   judge_tells_no_read true left leavers = refl

@@ -10,7 +10,7 @@ use lib.ListN.{length, get_or}
 use borrow.Author.Tests.{eqb-true, ne_eqb}
 use Rattle.rules.specs.declared.Answer.TheVariants.{Refused}
 use Rattle.rules.specs.declared.Found.{Found}
-use Rattle.rules.specs.declared.Found.TheVariants.{Nothing, At}
+use Rattle.std.specs.Prelude.{Option, Some, None}
 use Rattle.rules.specs.Answer.{is_refused}
 use Rattle.rules.specs.Range.{any}
 use Rattle.rules.specs.Card.{is_charge, card_length, shadow_place}
@@ -30,10 +30,12 @@ use Rattle.rules.proofs.Copies.Lines.{shadow_line, line_fits}
 use Rattle.rules.proofs.Stores.Leaves.{LedgerFits, SameLengths, Leaves, stores_stay, is_settled_by, LeavesBy}
 use Rattle.rules.proofs.Stores.Committed.{not_among, commit_leaves}
 use Rattle.rules.proofs.Stores.Leavers.{judge_leaves, abort_leaves}
+use Rattle.rules.specs.Refusal.{refusal_numbered}
+use Rattle.rules.specs.declared.refusal.Refusal.{Refusal}
 
 -- ---- RULES 2.8: refused events
 
-pub cause_leaves : (s : Ledger) (e : Event) → cause_in s e ≢ 0 → step s e ≡ record { answer = Refused (cause_in s e); after = s }
+pub cause_leaves : (s : Ledger) (e : Event) → cause_in s e ≢ 0 → step s e ≡ record { answer = Refused (refusal_numbered (cause_in s e)); after = s }
 unfolding step
 cause_leaves s e h = rw (ne_eqb (cause_in s e) 0 h)
 
@@ -54,13 +56,13 @@ act_not_refused s e a =
     (λ _. judged_not_refused (is_judged_failed s.table e.number) _)
     (λ _. refl)
   where
-    commit_not : (found : Found) → is_refused (judged s e.number found).answer ≡ false
-    commit_not Nothing = refl
-    commit_not (At t k) = refl
+    commit_not : (found : Option Found) → is_refused (judged s e.number found).answer ≡ false
+    commit_not None = refl
+    commit_not (Some f) = refl
 
-pub refused_leaves : (s : Ledger) (e : Event) (c : ℕ) → (step s e).answer ≡ Refused c → (step s e).after ≡ s
-refused_leaves s e c =
-    step_by_cause s e (λ o _. o.answer ≡ Refused c → o.after ≡ s) (λ _. refl)
+pub refused_leaves : (s : Ledger) (e : Event) (refusal : Refusal) → (step s e).answer ≡ Refused refusal → (step s e).after ≡ s
+refused_leaves s e refusal =
+    step_by_cause s e (λ o _. o.answer ≡ Refused refusal → o.after ≡ s) (λ _. refl)
     (λ a refused. absurd (true≢false (rw refused at (act_not_refused s e a))))
 
 -- ---- RULES 2.7: what may change, by who commits
@@ -118,13 +120,13 @@ module _ (s : Ledger) (e : Event) where
           }
 
     commit_touches :
-        is_commit e ≡ true → (f : Found) → commit_verdict s.table e.number ≡ f → Touched (judged s e.number f).after []
+        is_commit e ≡ true → (f : Option Found) → commit_verdict s.table e.number ≡ f → Touched (judged s e.number f).after []
     unfolding judged
-    commit_touches is Nothing clear =
+    commit_touches is None clear =
         by_commits [] (e.number ∷ []) (rw (is, clear))
         (let other = no_start e commit_code is refl in
         commit_leaves s sound fits e.number (named_given a other) (named_alive a other) s.table refl (λ k h. refl))
-    commit_touches is (At t k) clash = stores_stay s _
+    commit_touches is (Some f) clash = stores_stay s _
 
     judge_touches : is_judge e ≡ true → Touched (judge s e.number).after (judge_left s e.number).commits
     unfolding judge

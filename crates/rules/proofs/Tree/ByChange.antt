@@ -6,7 +6,7 @@ use mathlib.Core.Path.{◌≡◌, refl}
 use mathlib.Core.Bool.{Bool, true, false}
 use mathlib.Core.List.{List}
 use Rattle.rules.specs.declared.Found.{Found}
-use Rattle.rules.specs.declared.Found.TheVariants.{Nothing, At}
+use Rattle.std.specs.Prelude.{Option, Some, None}
 use Rattle.rules.specs.Card.{first_charge, IsCharge}
 use Rattle.rules.specs.Table.{parent_of, kind_of}
 use Rattle.rules.specs.Kind.{IsKind, top_kind, sub_kind}
@@ -32,13 +32,13 @@ module _
     {k : ℕ} (charge : IsCharge k) (P : Ledger → Type 0)
     (calms : (s : Ledger) (v shadow : List ℕ) → Calm s.table v k → P s → P (ledger_of v s.base shadow))
     (commits :
-    (s : Ledger) → Proper s → (n : ℕ) → Committable s.table n → is_commit_outside s.table s.base n Nothing ≡ false →
+    (s : Ledger) → Proper s → (n : ℕ) → Committable s.table n → is_commit_outside s.table s.base n None ≡ false →
     P s → P (committed_under s n (parent_of s.table n))) where
   -- ---- those who leave a queue
 
   finished_keeps :
       (s : Ledger) → Proper s → (n : ℕ) → Committable s.table n → (b : Bool) →
-      is_commit_outside s.table s.base n Nothing ≡ b → P s → P (finished s n b)
+      is_commit_outside s.table s.base n None ≡ b → P s → P (finished s n b)
   unfolding finished
   finished_keeps s proper n may true _ was = calms s _ s.shadow (fail_calm proper.sound n k charge may) was
   finished_keeps s proper n may false fits was = commits s proper n may fits was
@@ -81,10 +81,10 @@ module _
     writes j card p plain = calms s _ _ (write_calm proper.sound n k charge j p plain) was
 
     judges :
-        Committable s.table n → (f : Found) → is_commit_outside s.table s.base n f ≡ false → P (judged s n f).after
+        Committable s.table n → (f : Option Found) → is_commit_outside s.table s.base n f ≡ false → P (judged s n f).after
     unfolding judged
-    judges j Nothing fits = commits s proper n j fits was
-    judges j (At t i) fits = calms s _ s.shadow (fail_calm proper.sound n k charge j) was
+    judges j None fits = commits s proper n j fits was
+    judges j (Some f) fits = calms s _ s.shadow (fail_calm proper.sound n k charge j) was
 
     -- its queue
     abbrev h : ℕ

@@ -4,7 +4,7 @@ use mathlib.Core.Path.{◌≡◌, sym, ap, ◌∙◌}
 use mathlib.Core.Logic.{◌≢◌}
 use mathlib.Core.Bool.{true, false}
 use lib.IntN.{ℤ, pos, ◌+ℤ◌, +ℤ_idr}
-use Rattle.rules.specs.declared.Found.TheVariants.{Nothing}
+use Rattle.std.specs.Prelude.{None}
 use Rattle.rules.specs.Card.{IsCharge}
 use Rattle.rules.specs.Amount.{amount_of, amount_in, base_amount}
 use Rattle.rules.specs.Table.{parent_of, has_written, pending_sum}
@@ -22,7 +22,7 @@ use Rattle.rules.proofs.Demand.CommitLaid.{base_sum_fits, parent_pending, parent
 
 module _
     {s : Ledger} (proper : Proper s) {n p : ℕ} (judged : Committable s.table n) (under : parent_of s.table n ≡ p)
-    (fits : is_commit_outside s.table s.base n Nothing ≡ false) (k : ℕ) (charge : IsCharge k) where
+    (fits : is_commit_outside s.table s.base n None ≡ false) (k : ℕ) (charge : IsCharge k) where
   -- without a write there is nothing to add
   unwritten_nothing : has_written s.table n k ≡ false → pending_sum s.table n k ≡ pos 0
   unwritten_nothing unwritten = ap amount_of (proper.sound.pendings n k judged.own charge unwritten) ∙ amount_zero

@@ -8,7 +8,7 @@ use mathlib.Core.Logic.{◌≢◌}
 use mathlib.Core.Bool.{false}
 use mathlib.Core.List.{List}
 use lib.IntN.{ℤ, ◌+ℤ◌, +ℤ_assoc}
-use Rattle.rules.specs.declared.Found.TheVariants.{Nothing}
+use Rattle.std.specs.Prelude.{None}
 use Rattle.rules.specs.Card.{IsCharge}
 use Rattle.rules.specs.Amount.{amount_of, base_amount}
 use Rattle.rules.specs.Table.{parent_of, pending_field, pending_sum, own_adds, kept_field, kept_sum, total_of}
@@ -27,7 +27,7 @@ use Rattle.rules.proofs.Tree.CommitSums.{parent_grows, base_grows}
 
 module _
     {s : Ledger} (proper : Proper s) {n p : ℕ} (judged : Committable s.table n) (under : parent_of s.table n ≡ p)
-    (fits : is_commit_outside s.table s.base n Nothing ≡ false) (k : ℕ) (charge : IsCharge k)
+    (fits : is_commit_outside s.table s.base n None ≡ false) (k : ℕ) (charge : IsCharge k)
     {opening : ℤ} (was : Carried k opening s.table (base_amount s.base k)) where
   abbrev w : List ℕ
   w = s.table

@@ -1,41 +1,24 @@
 -- `read_full` meets its contract: what a read puts behind `at` joins what stands in front of it. Assumes nothing.
-use Rattle.std.proofs.Common.{◌≡◌, ℕ, ◌+◌, ◌-◌, ◌≤◌, List, ◌++◌, rules, arith, length, take, slice_range, sym, ap, ◌∙◌, subst, le_refl, drop_at, length-take-le}
-use Rattle.std.proofs.lemmas.Slice.{take-put_mid_below}
+use Rattle.std.proofs.Common.{◌≡◌, ℕ, ◌+◌, ◌≤◌, List, ◌++◌, rules, length, take, sym, ap, ◌∙◌, subst, length-take-le}
 use Rattle.std.specs.Io.KnownBytes.{Consumes}
 use Rattle.std.proofs.KnownBytes.{Consumes-trans}
+use Rattle.std.proofs.Math.Seq.{take-append-add}
+use Rattle.std.proofs.lemmas.List.{take-append-le}
 use borrow.Rule.Slice.PartMut.{put_mid, post_of}
-use lib.Seq.{take-add, take-append-le}
 use Rattle.streams.proofs.read_full.Goals as goal
 
--- a front that did not change, and what stands behind it
-take_split :
-    (a b : ℕ) (old new : List ℕ) → a ≤ b → take a new ≡ take a old → take a old ++ slice_range new a b ≡ take b new
-take_split a b old new h front =
-    let same : a + (b - a) ≡ b = omega arith in
-    ap (λ l. l ++ slice_range new a b) (sym front) ∙ sym (take-add a (b - a) new) ∙ ap (λ n. take n new) same
-
--- the front of what was put in a list's middle
-slice_range-put_mid :
-    (a k n : ℕ) (xs ys : List ℕ) → a ≤ length xs → n ≤ length ys → slice_range (put_mid a k xs ys) a (a + n) ≡ take n ys
-slice_range-put_mid a k n xs ys within fits =
-    let same : (a + n) - a ≡ n = omega arith in
+-- a list's front, and the front of what was put behind it
+take-put_mid_front :
+    (a k n : ℕ) (xs ys : List ℕ) → a ≤ length xs → n ≤ length ys → take (a + n) (put_mid a k xs ys) ≡ take a xs ++ take n ys
+take-put_mid_front a k n xs ys within fits =
     let after = post_of a k xs in
-    ap (take ((a + n) - a)) (drop_at (take a xs) (ys ++ after) a (length-take-le a xs within))
-    ∙ ap (λ m. take m (ys ++ after)) same
-    ∙ take-append-le n ys after fits
+    ap (λ m. take (m + n) (put_mid a k xs ys)) (sym (length-take-le a xs within)) ∙ take-append-add (take a xs) (ys ++ after) n
+    ∙ ap (λ l. take a xs ++ l) (take-append-le n ys after fits)
 
 pub loop-at-preserved : goal.loop-at-preserved
 loop-at-preserved g c =
-    let from = c.loop-at.at in
-    let room = length c.loop-at.buf - from in
-    let within = c.loop-at.invariant.1 in
-    let now = put_mid from room c.loop-at.buf c.read.new.buf in
-    let part = slice_range-put_mid from room c.in_ok-n.n c.loop-at.buf c.read.new.buf within c.in_ok-n.ensures.bound.0 in
-    let kept = take-put_mid_below _ _ _ _ _ (le_refl _) within in
-    let joined = take_split from (from + c.in_ok-n.n) c.loop-at.buf now (omega arith) kept in (
+    let joined = take-put_mid_front _ _ _ _ _ c.loop-at.invariant.1 c.in_ok-n.ensures.bound.0 in (
       search rules,
       search rules,
-      subst (Consumes _ _)
-          (ap (λ l. take from c.loop-at.buf ++ l) (sym part) ∙ joined)
-          (Consumes-trans _ _ _ _ _ c.loop-at.invariant.2 c.in_ok-n.ensures.bytes.0),
+      subst (Consumes _ _) (sym joined) (Consumes-trans _ _ _ _ _ c.loop-at.invariant.2 c.in_ok-n.ensures.bytes.0),
     )

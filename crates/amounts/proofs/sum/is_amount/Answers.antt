@@ -2,10 +2,10 @@
 -- has the sign itself. Assumes nothing.
 use Prim.Native.Nat.{◌-◌, ◌≤◌, ◌<◌}
 use native.Mathlib.Omega.{arith}
-use mathlib.Core.Path.{◌≡◌, sym}
+use mathlib.Core.Path.{◌≡◌, sym, ◌∙◌}
 use mathlib.Core.Bool.{false}
 use lib.Dec.{eqb}
-use borrow.Author.Tests.{eqb-true, eq-eqb}
+use borrow.Author.Tests.{eqb-true, eq-eqb, le-ltb}
 use Rattle.rules.specs.Amount.{is_amount}
 use Rattle.rules.proofs.Laws.Tests.{same_test, false_of_not_true}
 use Rattle.rules.proofs.Laws.Integers.{up_or_dn}
@@ -40,5 +40,5 @@ returns-then-sum-lt-SIGN c = without_sign c.args.sum (omega arith)
 pub returns-then-sum : goal.returns-then-sum
 returns-then-sum c = with_sign c.args.sum (omega arith) (omega arith) (omega arith)
 
-pub returns : goal.returns
-returns c = sym (too_large c.args.sum (omega arith) (omega arith))
+pub returns-else-sum : goal.returns-else-sum
+returns-else-sum c = le-ltb c.args.sum.carries c.args.sum.negatives (omega arith) ∙ sym (too_large c.args.sum (omega arith) (omega arith))

@@ -1,23 +1,23 @@
 -- `reaches_store` meets its contract: whether the store is reached from `n` is whether it is from `at`, the action at the loop's
 -- head, in the moves that are left. Assumes nothing.
-use mathlib.Core.Path.{refl, sym, ◌∙◌}
+use Prim.Native.Nat.{suc, ◌+◌, ◌-◌}
+use native.Mathlib.Omega.{arith}
+use mathlib.Core.Path.{◌≡◌, sym}
+use Rattle.rules.specs.Table.{most_actions}
 use Rattle.rules.proofs.Laws.Climbing.{climbs_store}
 use Rattle.ancestry.proofs.WayUp.{way_on, way_ends}
 use Rattle.ancestry.proofs.way.reaches_store.Goals as goal
 
-pub loop-at-init : goal.loop-at-init
-loop-at-init c = refl
+pub returns-then-at-eq-STORE : goal.returns-then-at-eq-STORE
+returns-then-at-eq-STORE c = rw (c.loop.invariant.1, c.if-at-eq-STORE.true) (sym (climbs_store _ _))
 
-pub returns-then-left-eq0 : goal.returns-then-left-eq0
-returns-then-left-eq0 c =
-    let loop = c.loop-at in
-    rw (loop.invariant, c.if-left-eq0.true) (sym (way_ends _ loop.at c.loop-at-test.true))
+pub loop-preserved : goal.loop-preserved
+loop-preserved c =
+    let loop = c.loop in
+    let left : most_actions - loop.counter ≡ suc (most_actions - (loop.counter + 1)) = omega arith in
+    (omega arith, rw (c.parent_in-at.ensures, loop.invariant.1, left) (way_on _ _ loop.at c.if-at-eq-STORE.false))
 
 pub returns : goal.returns
 returns c =
-    let loop = c.loop-at in rw (loop.invariant, c.loop-at-test.false) (sym (climbs_store _ loop.left))
-
-pub loop-at-preserved : goal.loop-at-preserved
-loop-at-preserved c =
-    rw c.parent_in-at.ensures
-    (c.loop-at.invariant ∙ way_on _ c.loop-at.left c.loop-at.at c.if-left-eq0.false c.loop-at-test.true)
+    let none : most_actions - c.loop.counter ≡ 0 = omega arith in
+    rw (c.loop.invariant.1, none) (sym (way_ends _ c.loop.at))

@@ -16,31 +16,25 @@ reached : (count waiting last : ℕ) (fits : Bool) → leb (count + (waiting + 1
 reached count waiting last true is = lt-leb last (count + waiting) (omega (arith, leb-true (count + (waiting + 1)) last is))
 reached count waiting last false is = le-leb last (count + waiting) (omega (arith, leb-false (count + (waiting + 1)) last is))
 
-pub queue_length-requires-clause-kind : goal.queue_length-requires-clause-kind
-queue_length-requires-clause-kind c = own_kind c.args.table.now c.args.number c.kind_of-h.ensures
-
 pub overflow_add-queue_length : goal.overflow_add-queue_length
 overflow_add-queue_length c =
     let known = own_kind c.args.table.now c.args.number c.kind_of-h.ensures in
     omega (arith, c.queue_length.ensures, (c.requires.sound.lines _ known).short)
 
-pub has_times_left-requires-clause-kind : goal.has_times_left-requires-clause-kind
-has_times_left-requires-clause-kind c = own_kind c.args.table.now c.args.number c.kind_of-h.ensures
-
-pub returns-then-has_times_left : goal.returns-then-has_times_left
+pub returns : goal.returns
 unfolding time_causes
-returns-then-has_times_left c =
+returns c =
     rw (
       ← c.kind_of-h.ensures,
       ← c.queue_length.ensures,
-      reached _ _ last_time true (sym c.has_times_left.ensures ∙ c.if-has_times_left.true),
+      reached _ _ last_time true (sym c.has_times_left.ensures ∙ c.if-not-has_times_left.false),
     )
 
-pub returns-else-has_times_left : goal.returns-else-has_times_left
+pub returns-then-not-has_times_left : goal.returns-then-not-has_times_left
 unfolding time_causes
-returns-else-has_times_left c =
+returns-then-not-has_times_left c =
     rw (
       ← c.kind_of-h.ensures,
       ← c.queue_length.ensures,
-      reached _ _ last_time false (sym c.has_times_left.ensures ∙ c.if-has_times_left.false),
+      reached _ _ last_time false (sym c.has_times_left.ensures ∙ c.if-not-has_times_left.true),
     )

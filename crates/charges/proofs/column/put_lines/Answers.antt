@@ -1,33 +1,39 @@
--- `put_lines` meets its contract: at the loop's head the lines of the first `i` accounts stand at the front. Assumes nothing.
-use Rattle.std.proofs.Common.{sym, refl, add-one, arith, rules}
-use Rattle.text.proofs.Texts.{put_then, put_at_nothing}
+-- The loop's invariant: the lines of the accounts so far are put. Assumes nothing.
+use Rattle.std.proofs.Common.{◌≡◌, ◌+◌, ◌-◌, suc, arith}
+use Rattle.rules.specs.Card.{first_charge, account_count}
+use Rattle.text.proofs.Texts.{writes_then, writes_nothing}
 use Rattle.charges.specs.Column.{account_lines}
 use Rattle.charges.proofs.Faults.{good}
 use Rattle.charges.proofs.Totals.{running_number}
 use Rattle.charges.proofs.Lines.{line_fits}
 use Rattle.charges.proofs.column.put_lines.Goals as goal
 
-pub loop-i-init : goal.loop-i-init
+pub loop-account-init : goal.loop-account-init
 unfolding account_lines
-loop-i-init c = (omega arith, refl, (refl, sym (put_at_nothing _ 0)))
+loop-account-init c = (omega arith, omega arith, writes_nothing _)
 
-pub running_of-requires : goal.running_of-requires
-running_of-requires c = c.requires.faultless
-
-pub put_line-at-requires : goal.put_line-at-requires
-put_line-at-requires c =
+pub put_line-requires : goal.put_line-requires
+put_line-requires c =
+    let (from, _, put) = c.loop-account.invariant in
     let list_good = good _ c.requires.faultless in
-    let loop = c.loop-i in
-    let room = line_fits _ list_good loop.i c.loop-i-test.true in
+    let account = c.loop-account.account in
+    let on : first_charge + (account - first_charge) ≡ account = omega (arith, from) in
+    let room = rw on at (line_fits _ list_good (account - first_charge) (omega (arith, from, c.loop-account-test.true))) in
     rw c.running_of.ensures
-    record { number = running_number _ _ list_good; running_in_bounds = omega (arith, loop.invariant, room) }
+    record { number = running_number _ _ list_good; fits = omega (arith, put, c.requires.room, room) }
 
-pub loop-i-preserved : goal.loop-i-preserved
+pub loop-account-preserved : goal.loop-account-preserved
 unfolding account_lines
-loop-i-preserved c =
-    let shown = c.running_of.ensures in
-    let line = rw shown at c.put_line-at.ensures in (
-      omega arith,
-      search rules,
-      rw add-one (put_then _ _ _ _ c.loop-i.invariant.2 (line.next, line.leaves)),
-    )
+loop-account-preserved c =
+    let (from, _, put) = c.loop-account.invariant in
+    let account = c.loop-account.account in
+    let on : first_charge + (account - first_charge) ≡ account = omega (arith, from) in
+    let next : account + 1 - first_charge ≡ suc (account - first_charge) = omega (arith, from) in
+    let line = rw c.running_of.ensures at c.put_line.ensures in
+    (omega arith, omega (arith, c.loop-account-test.true), rw (next, on) (writes_then put line))
+
+pub returns : goal.returns
+returns c =
+    let (_, upto, put) = c.loop-account.invariant in
+    let whole : c.loop-account.account ≡ account_count = omega (arith, upto, c.loop-account-test.false) in
+    rw whole at put

@@ -1,30 +1,33 @@
--- `charges_fault` meets its contract: the fault of all charges is that of those from `i` on, `i` the charge at the loop's head,
--- and the test decides `i` itself. Assumes nothing.
-use Rattle.std.proofs.Common.{sym, ◌∙◌, add-one, arith}
+-- The loop's invariant: the fault of all charges is that of those from the next one on, and the test decides that one itself.
+-- Assumes nothing.
+use Rattle.std.proofs.Common.{◌<◌, ◌≤◌, sym, ◌∙◌, add-one, arith}
 use native.Mathlib.Nat.{sub-zero}
+use Rattle.charges.specs.List.{charges_in}
+use Rattle.charges.proofs.Charges.{same_fault}
 use Rattle.charges.proofs.Faults.{bad_here, good_here, none_left}
 use Rattle.charges.proofs.list.charges_fault.Goals as goal
 
-pub loop-i-init : goal.loop-i-init
-loop-i-init c = (omega arith, rw sub-zero)
+pub loop-charge-init : goal.loop-charge-init
+loop-charge-init c = (omega arith, rw sub-zero)
 
-pub charge_fault-fault-requires : goal.charge_fault-fault-requires
-charge_fault-fault-requires c = record { inside = omega (arith, c.requires.inside) }
+pub returns-in_err-charge_fault : goal.returns-in_err-charge_fault
+returns-in_err-charge_fault c =
+    let chunks = c.as_chunks.ensures in
+    let inside : c.loop-charge.charge-index < charges_in c.args.list.now = omega (arith, c.loop-charge-test.true, chunks.front_len) in
+    let asked = c.in_err-charge_fault.ensures ∙ same_fault _ chunks.front c.loop-charge.charge-index inside in
+    bad_here _ _ _ _ _ inside c.from_residual.ensures.1 asked ∙ sym c.loop-charge.invariant.1
 
-pub returns-then-fault-ne-NONE : goal.returns-then-fault-ne-NONE
-returns-then-fault-ne-NONE c =
-    let asked = c.charge_fault-fault in
-    asked.ensures
-    ∙ sym (c.loop-i.invariant.1
-    ∙ bad_here _ _ _ c.loop-i-test.true (rw asked.ensures at c.if-fault-ne-NONE.true))
-
-pub loop-i-preserved : goal.loop-i-preserved
-loop-i-preserved c = (
-  omega arith,
-  rw add-one
-      (c.loop-i.invariant.1
-      ∙ good_here _ _ _ c.loop-i-test.true (sym c.charge_fault-fault.ensures ∙ c.if-fault-ne-NONE.false)),
-)
+pub loop-charge-preserved : goal.loop-charge-preserved
+loop-charge-preserved c =
+    let chunks = c.as_chunks.ensures in
+    let inside : c.loop-charge.charge-index < charges_in c.args.list.now = omega (arith, c.loop-charge-test.true, chunks.front_len) in
+    let asked = c.in_ok-charge_fault.ensures ∙ same_fault _ chunks.front c.loop-charge.charge-index inside in (
+      omega (arith, inside),
+      rw add-one (c.loop-charge.invariant.1 ∙ good_here _ _ _ inside (sym asked)),
+    )
 
 pub returns : goal.returns
-returns c = sym (c.loop-i.invariant.1 ∙ none_left _ _ _ c.loop-i-test.false)
+returns c =
+    let done : charges_in c.args.list.now ≤ c.loop-charge.charge-index =
+    omega (arith, c.loop-charge-test.false, c.as_chunks.ensures.front_len) in
+    sym (c.loop-charge.invariant.1 ∙ none_left _ _ _ done)

@@ -1,11 +1,9 @@
--- `charges_fault` meets its contract: the fault of all charges is that of those from `i` on, `i` the charge at the loop's head,
--- and the test decides `i` itself. Assumes nothing.
+-- The loop's invariant: the fault of all charges is that of those from the next one on. Assumes nothing.
 use Rattle.std.proofs.Common.{◌≡◌, ◌-◌, ◌≤◌}
-use Rattle.charges.specs.List.{charges_fault}
+use Rattle.charges.specs.List.{charges_in, charges_fault}
 use Rattle.charges.proofs.list.charges_fault.Given as goal
 
-abbrev pub invariant-loop-i : goal.invariant-loop-i
-invariant-loop-i l = (l.i ≤ l.count) × (charges_fault l.list 0 l.count ≡ charges_fault l.list l.i (l.count - l.i))
-
-abbrev pub decreases-loop-i : goal.decreases-loop-i
-decreases-loop-i l = l.count - l.i
+abbrev pub invariant-loop-charge : goal.invariant-loop-charge
+invariant-loop-charge l =
+    let count = charges_in l.list in
+    (l.charge-index ≤ count) × (charges_fault l.list 0 count ≡ charges_fault l.list l.charge-index (count - l.charge-index))

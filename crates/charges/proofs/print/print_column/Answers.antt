@@ -33,13 +33,8 @@ returns-clause-text g c =
 pub returns-in_err-write_full-clause-failed : goal.returns-in_err-write_full-clause-failed
 returns-in_err-write_full-clause-failed g c =
     let put = text_in_front _ _ (c.column-k.ensures.next, c.column-k.ensures.leaves) in
-    let part :
-    PrintsPart (g.R.Read.remaining c.args.from.now) (g.R.Read.remaining c.read_full.new.reader)
-    (g.W.Write.contents c.args.to.now) (g.W.Write.contents c.write_full.new.writer) =
-    record {
+    on_err {P = PrintsPart _ _ _ _} _ record {
       read = record { bytes = _; gone = c.in_ok-n.ensures.bytes };
-      list = _;
+      file = _;
       written = subst (AppendsFront _ _) put c.in_err-write_full.ensures.failed;
     }
-    in
-    on_err _ part

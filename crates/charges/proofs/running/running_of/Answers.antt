@@ -1,27 +1,36 @@
--- `running_of` meets its contract: at the loop's head the record is that after the first `i` charges. Assumes nothing.
-use Rattle.std.proofs.Common.{◌≡◌, ◌∙◌, add-one, arith}
+-- The loop's invariant: the record is that after the charges so far. Assumes nothing.
+use Rattle.std.proofs.Common.{◌≡◌, ◌<◌, ◌∙◌, add-one, arith}
 use Rattle.charges.specs.List.{charges_in}
 use Rattle.charges.specs.Running.{running_after}
+use Rattle.charges.proofs.Charges.{same_cents, same_charged}
 use Rattle.charges.proofs.Faults.{good}
 use Rattle.charges.proofs.Totals.{charge_fits}
 use Rattle.charges.proofs.running.running_of.Goals as goal
 
-pub loop-i-init : goal.loop-i-init
+pub loop-charge-init : goal.loop-charge-init
 unfolding running_after
-loop-i-init c = (omega arith, c.uncharged-running.ensures)
+loop-charge-init c = (omega arith, c.uncharged-running.ensures)
 
-pub charged_by-running-requires-clause-has_charges : goal.charged_by-running-requires-clause-has_charges
-charged_by-running-requires-clause-has_charges c = record { inside = omega arith }
+pub charged_by-running-requires : goal.charged_by-running-requires
+charged_by-running-requires c =
+    let chunks = c.as_chunks.ensures in
+    let i = c.loop-charge.charge-index in
+    let inside : i < charges_in c.args.list.now = omega (arith, c.loop-charge-test.true, chunks.front_len) in
+    rw (c.loop-charge.invariant.1, same_cents c.args.list.now chunks.front i inside)
+    (charge_fits c.args.list.now c.args.account (good _ c.requires) i inside)
 
-pub charged_by-running-requires-clause-sum_fits : goal.charged_by-running-requires-clause-sum_fits
-charged_by-running-requires-clause-sum_fits c = rw c.loop-i.invariant.1
-    (charge_fits c.args.list.now c.args.account (good _ c.requires) c.loop-i.i c.loop-i-test.true)
-
-pub loop-i-preserved : goal.loop-i-preserved
+pub loop-charge-preserved : goal.loop-charge-preserved
 unfolding running_after
-loop-i-preserved c = (omega arith, c.charged_by-running.ensures ∙ rw (c.loop-i.invariant.1, add-one))
+loop-charge-preserved c =
+    let chunks = c.as_chunks.ensures in
+    let i = c.loop-charge.charge-index in
+    let inside : i < charges_in c.args.list.now = omega (arith, c.loop-charge-test.true, chunks.front_len) in (
+      omega (arith, inside),
+      c.charged_by-running.ensures ∙ same_charged c.args.list.now chunks.front i inside _ _ ∙ rw (c.loop-charge.invariant.1, add-one),
+    )
 
 pub returns : goal.returns
 returns c =
-    let done : c.loop-i.i ≡ charges_in c.args.list.now = omega arith in
-    rw done at c.loop-i.invariant.1
+    let done : c.loop-charge.charge-index ≡ charges_in c.args.list.now =
+    omega (arith, c.loop-charge.invariant.0, c.loop-charge-test.false, c.as_chunks.ensures.front_len) in
+    rw done at c.loop-charge.invariant.1

@@ -19,14 +19,14 @@ pass-time-requires-clause-n_value c = sym c.is_outside.ensures ∙ c.if-is_outsi
 
 pub returns-then-is_outside : goal.returns-then-is_outside
 returns-then-is_outside c =
-    rw (← c.commit_verdict-found.ensures, c.in-Nothing.is, sym c.is_outside.ensures ∙ c.if-is_outside.true)
+    rw (← c.commit_verdict.ensures, c.in-None.is, sym c.is_outside.ensures ∙ c.if-is_outside.true)
 
 pub returns-else-is_outside : goal.returns-else-is_outside
 unfolding commit judged
 returns-else-is_outside c =
-    rw (← c.commit_verdict-found.ensures, c.in-Nothing.is, sym c.is_outside.ensures ∙ c.if-is_outside.false)
+    rw (← c.commit_verdict.ensures, c.in-None.is, sym c.is_outside.ensures ∙ c.if-is_outside.false)
     (rw (c.pass-time.ensures.time, c.pass-time.ensures.leaves))
 
-pub returns-in-At : goal.returns-in-At
+pub returns-in-Some : goal.returns-in-Some
 unfolding commit judged is_commit_outside
-returns-in-At c = rw (← c.commit_verdict-found.ensures, c.in-At.is, c.set_state.ensures)
+returns-in-Some c = rw (← c.commit_verdict.ensures, c.in-Some.is, c.set_state.ensures)

@@ -15,6 +15,3 @@ invariant-loop-k l =
     × (length l.base ≡ length l.initial.base)
     × (length l.shadow ≡ length l.initial.shadow)
     × (ledger_of l.table l.base l.shadow ≡ copied_down (ledger_of l.initial.table l.initial.base l.initial.shadow) l.n l.p l.k)
-
-abbrev pub decreases-loop-k : goal.decreases-loop-k
-decreases-loop-k l = l.k

@@ -3,14 +3,10 @@ use native.Mathlib.Omega.{arith}
 use mathlib.Core.Path.{sym, ap, ◌∙◌}
 use borrow.Author.Rules.{rules}
 use Rattle.rules.specs.Kind.{kind_under}
-use Rattle.rules.specs.Table.{committed, parent_field, parent_of, state_field}
+use Rattle.rules.specs.Table.{committed, parent_field, state_field}
 use Rattle.rules.specs.Commit.{commit_time, commit_counter}
-use Rattle.rules.proofs.Laws.Kinds.{kind_known}
 use Rattle.rules.proofs.Laws.Words.{word_other_field}
 use Rattle.commits.proofs.end.end.Goals as goal
-
-pub counter-count-requires-clause-kind : goal.counter-count-requires-clause-kind
-counter-count-requires-clause-kind c = rw c.kind_of.ensures (kind_known (parent_of c.args.table.now c.args.n))
 
 pub end_time_after-time-requires : goal.end_time_after-time-requires
 end_time_after-time-requires c =
@@ -36,7 +32,7 @@ unfolding commit_time commit_counter
 returns c =
     record {
       time = rw (
-        c.number_of.ensures,
+        c.from.ensures,
         c.end_time_after-time.ensures.number,
         c.has_writes-writes.ensures,
         c.counter-count.ensures.number,

@@ -15,7 +15,7 @@ pub loop-i-init : goal.loop-i-init
 unfolding opening_base
 loop-i-init c =
     let fits = c.requires.base in
-    (omega arith, omega arith, rw (sub-zero, c.byte_at-count.ensures.value, c.clear.ensures, fits))
+    (omega arith, omega arith, rw (sub-zero, c.byte_at-count.ensures.value, c.fill.ensures.after (λ y same. same), fits))
 
 pub put_opening-requires : goal.put_opening-requires
 put_opening-requires c =

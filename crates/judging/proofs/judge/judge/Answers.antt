@@ -12,7 +12,7 @@ use Rattle.rules.specs.Ledger.{Ledger, ledger_of}
 use Rattle.rules.specs.Step.{judge_left, judge}
 use Rattle.rules.proofs.Laws.Kinds.{kind_known}
 use Rattle.rules.proofs.Sound.Kept.{revealed_sound}
-use Rattle.queue.proofs.OwnQueue.{own_kind, sound_line, stands_once}
+use Rattle.queue.proofs.OwnQueue.{sound_line, stands_once}
 use Rattle.judging.specs.Reveal.{revealed_table}
 use Rattle.judging.proofs.Leaving.{table_revealed}
 use Rattle.judging.proofs.judge.judge.Goals as goal
@@ -38,7 +38,6 @@ leave-left-requires c =
     let entry = ledger_of c.args.table.now c.args.base.now c.args.shadow.now in
     record {
       sound = rw c.reveal.ensures (shown_sound entry c.args.n c.requires.sound c.requires.queued _);
-      kind = own_kind c.args.table.now c.args.n c.kind_of-h.ensures;
       stores_fit = c.requires.stores_fit;
     }
 

@@ -21,9 +21,9 @@ unfolding revealed_table
 returns-then-failed c =
     rw (c.if-failed.true, c.set_state.ensures, c.take_out.ensures, c.kind_of-h.ensures)
 
-pub returns : goal.returns
+pub returns-else-failed : goal.returns-else-failed
 unfolding revealed_table
-returns c =
+returns-else-failed c =
     rw (c.if-failed.false, c.mark_ready.ensures, c.kind_of-h.ensures)
 
 pub take_out-requires : goal.take_out-requires

@@ -24,7 +24,6 @@ leave-subs-requires c =
     let fits = leave_fits top_kind (omega arith) entry c.requires.sound c.requires.stores_fit in
     record {
       sound = rw (ap (λ (l : Ledger). l.table) now) (between_sound entry c.requires.sound);
-      kind = omega arith;
       stores_fit = rw (ap (λ (l : Ledger). l.base) now, ap (λ (l : Ledger). l.shadow) now) fits;
     }
 

@@ -1,49 +1,15 @@
--- `is_met_in_queue` meets its contract: whether one that is queued is met is whether one from position `i` on is, `i` the position
--- at the loop's head, and the test decides `i` itself. Assumes nothing.
-use native.Mathlib.Omega.{arith}
-use mathlib.Core.Path.{sym, ◌∙◌}
-use Rattle.rules.proofs.Laws.Ranges.{any_left_here, any_left_next, any_left_done}
-use Rattle.judging.proofs.MetSiblings.{met_from_head, row_of_queued}
+-- `is_met_in_queue` meets its contract: its range is that of the positions. Assumes nothing.
+use Rattle.std.proofs.Common.{rules, tests, sym, ◌∙◌}
+use Rattle.rules.specs.Action.{kind_number}
+use Rattle.rules.specs.Queue.{entry_number}
+use Rattle.rules.specs.Verdict.{is_met_by}
+use Rattle.rules.proofs.Laws.RangeTests.{any_of_range}
+use Rattle.judging.proofs.MetSiblings.{met_from_head}
 use Rattle.judging.proofs.verdict.is_met_in_queue.Goals as goal
 
--- the queue is short enough for its positions to be words
-pub overflow_add-i-end : goal.overflow_add-i-end
-overflow_add-i-end c = omega (arith, c.queue_length-tail.ensures, (c.requires.sound.lines c.args.h c.requires.kind).short)
-
-pub loop-i-init : goal.loop-i-init
-loop-i-init c = (omega arith, met_from_head _ _ _ _ (omega arith))
-
-pub entry_number-m-requires : goal.entry_number-m-requires
-entry_number-m-requires c =
-    let few = (c.requires.sound.lines c.args.h c.requires.kind).short in
-    record {
-      has_row = record { long = c.requires.sound.long; known = omega (arith, c.queue_length-tail.ensures, few) };
-      kind = c.requires.kind;
-    }
-
-pub is_met_by-requires-clause-has_row : goal.is_met_by-requires-clause-has_row
-is_met_by-requires-clause-has_row c = record { long = c.requires.sound.long; known = omega arith }
-
-pub is_met_by-requires-clause-has_row_2 : goal.is_met_by-requires-clause-has_row_2
-is_met_by-requires-clause-has_row_2 c = rw c.entry_number-m.ensures (row_of_queued _ _ c.requires.kind _ c.requires.sound c.loop-i.invariant.0 (omega arith))
-
-pub returns-then-is_met_by : goal.returns-then-is_met_by
-returns-then-is_met_by c =
-    sym (c.loop-i.invariant.1
-    ∙ any_left_here _ _ _ c.loop-i-test.true
-    (rw c.entry_number-m.ensures at (sym c.is_met_by.ensures ∙ c.if-is_met_by.true)))
-
-pub overflow_step-i : goal.overflow_step-i
-overflow_step-i c =
-    omega (arith, c.queue_length-tail.ensures, (c.requires.sound.lines c.args.h c.requires.kind).short)
-
-pub loop-i-preserved : goal.loop-i-preserved
-loop-i-preserved c = (
-  omega arith,
-  c.loop-i.invariant.1
-      ∙ any_left_next _ _ _ c.loop-i-test.true
-      (rw c.entry_number-m.ensures at (sym c.is_met_by.ensures ∙ c.if-is_met_by.false)),
-)
-
 pub returns : goal.returns
-returns c = sym (c.loop-i.invariant.1 ∙ any_left_done _ _ _ c.loop-i-test.false)
+returns c =
+    let w = c.args.table.now in
+    let h = kind_number c.args.h in
+    any_of_range (λ i. is_met_by w c.args.n (entry_number w h i)) c.any.ensures.ran (λ i b q called. search (rules, tests))
+    ∙ rw c.queue_length-tail.ensures (sym (met_from_head _ _ _))

@@ -1,28 +1,33 @@
--- `count_starts` meets its contract. The loop's invariant: `starts` is how many of the first `i` answers are starts, and so
--- it is at most `i`. Assumes nothing.
-use Prim.Native.Nat.{ℕ, ◌+◌}
+-- The loop's invariant: `starts` is how many of the answers so far are starts, and so it is at most their number. Assumes
+-- nothing.
+use Prim.Native.Nat.{ℕ, ◌+◌, ◌*◌, ◌<◌}
 use native.Mathlib.Omega.{arith}
-use mathlib.Core.Path.{◌≡◌, refl, ap₂}
-use Rattle.listing.specs.Buffer.{starts_from}
+use mathlib.Core.Path.{◌≡◌, refl, ap, ap₂, ◌∙◌}
+use lib.ListN.{get_or}
+use Rattle.rules.specs.Encoding.{answer_length}
+use Rattle.listing.specs.Buffer.{starts_of, starts_from}
 use Rattle.listing.proofs.Starts.{starts_next, one_start}
+use Rattle.listing.proofs.AnswerRows.{kind_of_row, counted}
 use Rattle.listing.proofs.lines.count_starts.Goals as goal
 
-pub loop-i-init : goal.loop-i-init
+pub loop-answer-init : goal.loop-answer-init
 unfolding starts_from
-loop-i-init c = (omega arith, omega arith, refl)
+loop-answer-init c = (omega arith, omega arith, refl)
 
-pub overflow_add-starts : goal.overflow_add-starts
-overflow_add-starts c = omega (arith, one_start _ c.starts_of-starts.ensures)
-
-pub loop-i-preserved : goal.loop-i-preserved
-loop-i-preserved c =
-    let loop = c.loop-i in (
+pub loop-answer-preserved : goal.loop-answer-preserved
+loop-answer-preserved c =
+    let loop = c.loop-answer in
+    let are = c.rows-answer-items.ensures in
+    let inside : loop.answer-index < c.args.count = omega (arith, c.loop-answer-test.true, are.many) in
+    let more : c.from-starts.result ≡ starts_of (get_or c.args.answers.now (answer_length * loop.answer-index) 0) =
+    c.from-starts.ensures ∙ counted _ ∙ ap starts_of (kind_of_row are loop.answer-index inside) in (
       omega arith,
-      omega (arith, one_start _ c.starts_of-starts.ensures),
-      rw starts_next (ap₂ (λ (m n : ℕ). m + n) loop.invariant.2 c.starts_of-starts.ensures),
+      omega (arith, loop.invariant.1, one_start _ more),
+      rw starts_next (ap₂ (λ (m n : ℕ). m + n) loop.invariant.2 more),
     )
 
 pub returns : goal.returns
 returns c =
-    let whole : c.loop-i.i ≡ c.args.count = omega arith in
-    rw whole at c.loop-i.invariant.2
+    let whole : c.loop-answer.answer-index ≡ c.args.count =
+    omega (arith, c.loop-answer.invariant.0, c.loop-answer-test.false, c.rows-answer-items.ensures.many) in
+    rw whole at c.loop-answer.invariant.2

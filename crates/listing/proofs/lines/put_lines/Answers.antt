@@ -1,32 +1,35 @@
--- `put_lines` meets its contract. The loop's invariant: the lines of the first `i` answers have been put, and `at` is where
--- they end. The buffer has room for the next line since no line is longer than line_length. Assumes nothing.
-use native.Mathlib.Nat.{zero-add}
+-- The loop's invariant: the lines of the first `i` answers are put. There is room for the next line since no line is longer
+-- than line_length. Assumes nothing.
+use Prim.Native.Nat.{◌<◌, ◌+◌}
 use native.Mathlib.Omega.{arith}
-use mathlib.Core.Path.{◌≡◌, refl, sym}
-use borrow.Author.Rules.{rules}
+use mathlib.Core.Path.{◌≡◌}
 use Rattle.listing.specs.Buffer.{lines_of}
-use Rattle.text.proofs.Texts.{put_then, put_at_nothing}
+use Rattle.text.proofs.Texts.{writes_then, writes_nothing}
 use Rattle.listing.proofs.Pieces.{lines_next}
 use Rattle.listing.proofs.Bounds.{line_fits}
+use Rattle.listing.proofs.AnswerRows.{line_of_row}
 use Rattle.listing.proofs.lines.put_lines.Goals as goal
 
 pub loop-i-init : goal.loop-i-init
 unfolding lines_of
-loop-i-init c = (omega arith, refl, (refl, sym (put_at_nothing _ 0)))
+loop-i-init c = (omega arith, writes_nothing _)
 
-pub put_line-at-requires : goal.put_line-at-requires
-put_line-at-requires c =
+pub put_line-requires : goal.put_line-requires
+put_line-requires c =
     let loop = c.loop-i in
-    line_fits _ loop.i _ _ _ _ _ loop.invariant.2.0 (omega arith) (omega arith) (omega arith)
+    let inside : loop.i < c.args.count = omega (arith, c.loop-i-test.true, c.rows-answer-items.ensures.many) in
+    rw (line_of_row c.rows-answer-items.ensures loop.i inside (loop.i + 1))
+    (omega (arith, loop.invariant.1, c.requires, line_fits c.args.answers.now loop.i (omega (arith, inside, c.requires.has_answers.0))))
 
 pub loop-i-preserved : goal.loop-i-preserved
 loop-i-preserved c =
     let loop = c.loop-i in
-    let put = put_then _ _ _ _ loop.invariant.2 (c.put_line-at.ensures.next, c.put_line-at.ensures.leaves) in
-    (omega arith, search rules, rw lines_next put)
+    let inside : loop.i < c.args.count = omega (arith, c.loop-i-test.true, c.rows-answer-items.ensures.many) in
+    let line = rw (line_of_row c.rows-answer-items.ensures loop.i inside _) at c.put_line.ensures in
+    (omega arith, rw lines_next (writes_then loop.invariant.1 line))
 
 pub returns : goal.returns
 returns c =
-    let whole : c.loop-i.i ≡ c.args.count = omega arith in
-    let put = rw (zero-add, whole) at c.loop-i.invariant.2 in
-    record { next = put.0; leaves = put.1 }
+    let whole : c.loop-i.i ≡ c.args.count =
+    omega (arith, c.loop-i.invariant.0, c.loop-i-test.false, c.rows-answer-items.ensures.many) in
+    rw whole at c.loop-i.invariant.1

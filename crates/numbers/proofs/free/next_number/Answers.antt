@@ -4,7 +4,7 @@ use native.Mathlib.Nat.{add-sub_cancel}
 use native.Mathlib.Omega.{arith}
 use mathlib.Core.Path.{sym, ◌∙◌}
 use Rattle.rules.specs.Table.{actions}
-use Rattle.numbers.proofs.Lowest.{lowest_here, lowest_next, lowest_done, next_found, next_fresh, next_none}
+use Rattle.numbers.proofs.Lowest.{lowest_here, lowest_next, lowest_done, found, not_found}
 use Rattle.numbers.proofs.free.next_number.Goals as goal
 
 pub overflow_add-m-end : goal.overflow_add-m-end
@@ -23,9 +23,7 @@ is_free-requires c =
 pub returns-then-is_free : goal.returns-then-is_free
 returns-then-is_free c =
     let loop = c.loop-m.invariant in
-    sym
-    (next_found _ _ loop.0
-    (loop.3 ∙ lowest_here _ _ _ c.loop-m-test.true (sym c.is_free.ensures ∙ c.if-is_free.true)))
+    found _ _ loop.0 (loop.3 ∙ lowest_here _ _ _ c.loop-m-test.true (sym c.is_free.ensures ∙ c.if-is_free.true))
 
 pub loop-m-preserved : goal.loop-m-preserved
 loop-m-preserved c =
@@ -36,14 +34,7 @@ loop-m-preserved c =
       loop.3 ∙ lowest_next _ _ _ c.loop-m-test.true (sym c.is_free.ensures ∙ c.if-is_free.false),
     )
 
-pub returns-then-last-lt-MOST_ACTIONS : goal.returns-then-last-lt-MOST_ACTIONS
-returns-then-last-lt-MOST_ACTIONS c =
-    let last = c.highest-last.ensures in
-    let none = c.loop-m.invariant.3 ∙ lowest_done _ _ _ c.loop-m-test.false in
-    rw last (sym (next_fresh _ none (rw last at c.if-last-lt-MOST_ACTIONS.true)))
-
 pub returns : goal.returns
 returns c =
-    let last = c.highest-last.ensures in
     let none = c.loop-m.invariant.3 ∙ lowest_done _ _ _ c.loop-m-test.false in
-    sym (next_none _ none (rw last at c.if-last-lt-MOST_ACTIONS.false))
+    c.then_some.ensures ∙ rw c.highest-last.ensures (not_found c.args.table.now none)

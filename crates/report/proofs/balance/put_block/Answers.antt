@@ -22,30 +22,23 @@ all_lines table base opening = refl
 pub loop-k-init : goal.loop-k-init
 loop-k-init c =
     let args = c.args in
-    put_first _ _ block_place (omega (arith, all_lines args.table.now args.base.now args.opening.now))
+    put_first _ balance_length _ block_place (omega (arith, all_lines args.table.now args.base.now args.opening.now))
 
 pub put_balance-requires : goal.put_balance-requires
 put_balance-requires c =
     let loop = c.loop-k in
-    let room = room_here _ loop.invariant c.loop-k-test.true in
+    let room = room_here _ _ loop.invariant c.loop-k-test.true in
     let words = one_line c.args.table.now c.args.base.now c.args.opening.now loop.k in
     record { has_row = c.requires.has_row; base = c.requires.base; charge = omega (arith, loop.invariant); has_room_for = omega (arith, room, words) }
-
-pub overflow_add-at : goal.overflow_add-at
-overflow_add-at c =
-    let loop = c.loop-k in
-    let args = c.args in
-    let words = one_line args.table.now args.base.now args.opening.now loop.k in
-    omega (arith, room_here _ loop.invariant c.loop-k-test.true, words)
 
 pub loop-k-preserved : goal.loop-k-preserved
 loop-k-preserved c =
     let loop = c.loop-k in
-    put_next _ loop.invariant c.loop-k-test.true balance_length (one_line _ _ _ _) _
+    put_next _ _ loop.invariant c.loop-k-test.true (one_line _ _ _ _) _
     c.put_balance.ensures
 
 pub shape_of-report : goal.shape_of-report
 shape_of-report c = c.loop-k.invariant.long
 
 pub returns : goal.returns
-returns c = put_last _ c.loop-k.invariant c.loop-k-test.false
+returns c = put_last _ _ c.loop-k.invariant c.loop-k-test.false

@@ -27,22 +27,17 @@ how_many table n = refl
 
 pub loop-k-init : goal.loop-k-init
 loop-k-init c =
-    put_first _ _ _ (omega (arith, how_many c.args.table.now c.args.n))
+    put_first _ account_words _ _ (omega (arith, how_many c.args.table.now c.args.n))
 
 pub put_account-requires : goal.put_account-requires
 put_account-requires c =
     let loop = c.loop-k in
-    record { figures_fit = c.requires.figures_fit; has_line = (c.requires.has_line, omega (arith, loop.invariant)); has_room_for = room_here _ loop.invariant c.loop-k-test.true }
-
-pub overflow_add-at : goal.overflow_add-at
-overflow_add-at c =
-    let loop = c.loop-k in
-    omega (arith, room_here _ loop.invariant c.loop-k-test.true)
+    record { figures_fit = c.requires.figures_fit; has_line = (c.requires.has_line, omega (arith, loop.invariant)); has_room_for = room_here _ _ loop.invariant c.loop-k-test.true }
 
 pub loop-k-preserved : goal.loop-k-preserved
 loop-k-preserved c =
     let loop = c.loop-k in
-    put_next _ loop.invariant c.loop-k-test.true account_words refl _ c.put_account.ensures
+    put_next _ _ loop.invariant c.loop-k-test.true refl _ c.put_account.ensures
 
 pub shape_of-report : goal.shape_of-report
 shape_of-report c = c.loop-k.invariant.long
@@ -50,4 +45,4 @@ shape_of-report c = c.loop-k.invariant.long
 pub returns : goal.returns
 returns c =
     let args = c.args in
-    put_last _ c.loop-k.invariant c.loop-k-test.false ∙ ap (sets args.report.now args.from) (sym (all_words args.table.now args.n))
+    put_last _ _ c.loop-k.invariant c.loop-k-test.false ∙ ap (sets args.report.now args.from) (sym (all_words args.table.now args.n))

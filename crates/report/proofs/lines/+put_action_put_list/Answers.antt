@@ -5,9 +5,10 @@ use mathlib.Core.Path.{sym, ◌∙◌}
 use mathlib.Core.List.{[], ◌∷◌}
 use Rattle.rules.specs.Sound.{IsGiven}
 use Rattle.rules.proofs.Tree.Shown.{child_shown}
-use Rattle.report.specs.Lined.{line_at_depth, action_lines, lines_from}
-use Rattle.report.proofs.Lining.{lined_none, lined_one, lined_both, lined_length, room_first, room_then, lines_done, lines_here, lines_next, line_first, lines_of_last, lines_of_action}
+use Rattle.report.specs.Lined.{line_at_depth, lines_from}
+use Rattle.report.proofs.Lining.{lined_one, lined_both, lined_length, room_then, line_first, lines_of_last, lines_of_action, listed_first, room_listed, listed_next, listed_over, listed_last}
 use Rattle.report.proofs.lines.+put_action_put_list.Goals as goal
+use Rattle.report.proofs.lines.+put_action_put_list.Goals.{put_list-then-is_child, put_list-else-is_child}
 
 -- ---- `put_action`
 
@@ -44,7 +45,7 @@ put_action-put_list-requires t c =
       omega arith,
       (
         c.requires.figures_fit,
-        (c.requires.has_line.1, (omega arith, (omega (arith, c.requires.has_levels), behind))),
+        (c.requires.has_line.1, (omega (arith, c.requires.has_levels), behind)),
       ),
     )
 
@@ -55,65 +56,31 @@ put_action-returns t c =
 
 -- ---- `put_list`
 
-pub put_list-returns-then-highest-i : goal.put_list-returns-then-highest-i
-put_list-returns-then-highest-i t c =
-    let args = c.args in
-    let over = rw c.highest.ensures at c.if-highest-i.true in
-    rw (lines_done args.levels args.table.now args.depth args.p args.i over) (lined_none _ _ _)
-
-pub put_list-put_list-requires : goal.put_list-put_list-requires
-put_list-put_list-requires t c =
-    let args = c.args in
-    let within = rw c.highest.ensures at c.if-highest-i.false in
-    let isnt = sym c.is_child.ensures ∙ c.if-not-is_child.true in
-    let lines = lines_next args.levels args.table.now args.depth args.p args.i (omega (arith, within)) isnt in (
-      omega (arith, within, c.requires.figures_fit.sound.few),
-      (
-        c.requires.figures_fit,
-        (c.requires.shown, (omega (arith, within), (c.requires.has_levels, rw lines at c.requires.has_line_room))),
-      ),
-    )
-
-pub put_list-returns-then-not-is_child : goal.put_list-returns-then-not-is_child
-put_list-returns-then-not-is_child t c =
-    let args = c.args in
-    let within = rw c.highest.ensures at c.if-highest-i.false in
-    let isnt = sym c.is_child.ensures ∙ c.if-not-is_child.true in
-    rw (lines_next args.levels args.table.now args.depth args.p args.i (omega (arith, within)) isnt) c.put_list.ensures
+pub put_list-loop-i-init : goal.put_list-loop-i-init
+put_list-loop-i-init t c = listed_first _ _ _ _ _ _
 
 pub put_list-put_action-next-requires : goal.put_list-put_action-next-requires
 put_list-put_action-next-requires t c =
     let args = c.args in
-    let within = rw c.highest.ensures at c.if-highest-i.false in
-    let is = sym c.is_child.ensures ∙ c.if-not-is_child.false in
-    let lines = lines_here args.levels args.table.now args.depth args.p args.i (omega (arith, within)) is in
-    let begun : IsGiven args.table.now args.i = omega (arith, within, c.requires.next) in
-    let shown = child_shown c.requires.figures_fit.sound args.p args.i begun is c.requires.shown in (
-      omega (arith, within, c.requires.figures_fit.sound.few),
-      (
-        c.requires.figures_fit,
-        ((begun, shown), (c.requires.has_levels, room_first _ _ (rw lines at c.requires.has_line_room))),
-      ),
-    )
+    let listed = c.loop-i.invariant in
+    let is = sym c.is_child.ensures ∙ c.if-is_child.true in
+    let given : IsGiven args.table.now c.loop-i.i = omega (arith, c.highest-last.ensures, listed.begun) in
+    let shown = child_shown c.requires.figures_fit.sound args.p c.loop-i.i given is c.requires.shown in
+    let room = room_listed _ _ _ _ listed given.1 is c.requires.has_line_room in
+    (omega arith, (c.requires.figures_fit, ((given, shown), (c.requires.has_levels, room))))
 
-pub put_list-put_list-requires-2 : goal.put_list-put_list-requires-2
-put_list-put_list-requires-2 t c =
-    let args = c.args in
-    let within = rw c.highest.ensures at c.if-highest-i.false in
-    let is = sym c.is_child.ensures ∙ c.if-not-is_child.false in
-    let lines = lines_here args.levels args.table.now args.depth args.p args.i (omega (arith, within)) is in
-    let put = c.put_action-next.ensures in
-    let here = action_lines args.levels args.table.now args.depth args.i in
-    let behind = lines_from args.levels args.table.now args.depth args.p (args.i + 1) in
-    let room = room_then here behind (rw lines at c.requires.has_line_room) _ (lined_length _ put) _ put.counted in (
-      omega (arith, within, c.requires.figures_fit.sound.few),
-      (c.requires.figures_fit, (c.requires.shown, (omega (arith, within), (c.requires.has_levels, room)))),
-    )
+pub put_list-loop-i-preserved : goal.put_list-loop-i-preserved
+put_list-loop-i-preserved t c =
+    let listed = c.loop-i.invariant in
+    let tested = sym c.is_child.ensures in
+    elim c.if-is_child.branch [
+      | put_list-then-is_child w ↦
+          rw (w.report-is, w.next-is)
+          (listed_next _ _ _ _ listed (omega (arith, c.highest-last.ensures)) (tested ∙ w.if-is_child.true) w.put_action-next.ensures)
+      | put_list-else-is_child w ↦
+          rw (w.report-is, w.next-is)
+          (listed_over _ _ _ _ listed (omega (arith, c.highest-last.ensures)) (tested ∙ w.if-is_child.false))
+    ]
 
 pub put_list-returns : goal.put_list-returns
-put_list-returns t c =
-    let args = c.args in
-    let within = rw c.highest.ensures at c.if-highest-i.false in
-    let is = sym c.is_child.ensures ∙ c.if-not-is_child.false in
-    rw (lines_here args.levels args.table.now args.depth args.p args.i (omega (arith, within)) is)
-    (lined_both _ c.put_action-next.ensures c.put_list-2.ensures)
+put_list-returns t c = listed_last _ _ _ _ c.loop-i.invariant (omega (arith, c.highest-last.ensures))

@@ -6,8 +6,10 @@ use mathlib.Core.Bool.{cond}
 use mathlib.Core.List.{List}
 use lib.Dec.{eqb}
 use lib.ListN.{length, length-replicate}
+use Rattle.std.specs.Prelude.{Ok, Err}
 use Rattle.rules.specs.Card.{card_length}
-use Rattle.rules.specs.Event.{write_code}
+use Rattle.rules.specs.Event.{Event, write_code}
+use Rattle.rules.proofs.Laws.Refusals.{is_refused, is_not_refused}
 use Rattle.rules.specs.Ledger.{Ledger, ledger_of}
 use Rattle.rules.specs.Encoding.{event_length, event_at}
 use Rattle.rules.specs.Cause.{later_cause}
@@ -15,10 +17,8 @@ use Rattle.rules.specs.Step.{Outcome, step}
 use Rattle.rules.proofs.Laws.EventBytes.{IsWhole}
 use Rattle.rules.proofs.Demand.Proper.{Proper}
 use Rattle.enumeration.specs.Lists.{candidate_count, code_tried, candidate, beginning_from, lists}
-use Rattle.shortdays.specs.declared.search.Sought.{Sought}
-use Rattle.shortdays.specs.declared.search.Sought.TheVariants.{Found, Past}
 use Rattle.shortdays.specs.Written.{with_event}
-use Rattle.shortdays.specs.Search.{Searching, IsSought}
+use Rattle.shortdays.specs.Search.{Searching, Sought, IsSought}
 use Rattle.shortdays.proofs.Standing.{written_here, reached_proper, reached_again, searching_next}
 use Rattle.shortdays.proofs.Places.{past_refused, found_last, past_last, found_behind, kept_behind, past_behind}
 use Rattle.shortdays.proofs.Places.{none_left, found_first, past_first, sought_in_all}
@@ -32,22 +32,22 @@ seek-returns-then-c-eq-CANDIDATES t c =
     none_left (lists (args.left - 1) (args.p + 1)) args.p (ledger_of args.table.now args.base.now args.shadow.now) args.c
     c.if-c-eq-CANDIDATES.true
 
-pub seek-returns-in-Found : goal.seek-returns-in-Found
-seek-returns-in-Found t c =
+pub seek-returns-in-Ok : goal.seek-returns-in-Ok
+seek-returns-in-Ok t c =
     let args = c.args in
-    let last = c.seek_with-sought.new in
+    let last = c.seek_with.new in
     found_first (lists (args.left - 1) (args.p + 1)) args.p (ledger_of args.table.now args.base.now args.shadow.now) args.c
-    (omega arith) args.left {t = ledger_of last.table last.base last.shadow} c.in-Found.ensures
+    (omega arith) args.left {t = ledger_of last.table last.base last.shadow} c.in-Ok.ensures
 
-pub seek-returns-in-Past : goal.seek-returns-in-Past
-seek-returns-in-Past t c =
+pub seek-returns-in-Err : goal.seek-returns-in-Err
+seek-returns-in-Err t c =
     let args = c.args in
-    let mid = c.seek_with-sought.new in
+    let mid = c.seek_with.new in
     let rest = c.seek in
     past_first (lists (args.left - 1) (args.p + 1)) args.p (ledger_of args.table.now args.base.now args.shadow.now) args.c
     (omega arith) args.left {t = ledger_of mid.table mid.base mid.shadow}
     (ledger_of rest.new.table rest.new.base rest.new.shadow) rest.new.list rest.result
-    c.in-Past.ensures rest.ensures
+    c.in-Err.ensures rest.ensures
 
 -- ---- `seek_with`
 
@@ -69,13 +69,13 @@ module _ {rule p left : ℕ} {list : List ℕ} {s : Ledger} (h : Searching rule 
         ∙ written_here list p (candidate p c) (tried_whole p c) room
 
     asked :
-        {cause : ℕ} → cause ≡ later_cause s.table s.base (event_at put (event_length * p)) →
+        {e : Event} {cause : ℕ} → e ≡ event_at put (event_length * p) → cause ≡ later_cause s.table s.base e →
         cause ≡ later_cause s.table s.base (candidate p c)
-    asked is = is ∙ ap (later_cause s.table s.base) put_here
+    asked here is = is ∙ ap (later_cause s.table s.base) (here ∙ put_here)
 
     -- it is taken
-    stepped : {o : Outcome} → o ≡ step s (event_at put (event_length * p)) → o.after ≡ (step s (candidate p c)).after
-    stepped is = ap (λ (o : Outcome). o.after) is ∙ ap (λ e. (step s e).after) put_here
+    stepped : {e : Event} {o : Outcome} → e ≡ event_at put (event_length * p) → o ≡ step s e → o.after ≡ (step s (candidate p c)).after
+    stepped here is = ap (λ (o : Outcome). o.after) is ∙ ap (λ e. (step s e).after) (here ∙ put_here)
 
     -- what is sought behind it, among all lists that follow it
     sought_behind :
@@ -89,96 +89,96 @@ module _ {rule p left : ℕ} {list : List ℕ} {s : Ledger} (h : Searching rule 
         sought_in_all (left - 1) (p + 1) i (step s (candidate p c)).after last (with_event list p (candidate p c)) after r
         more step_is written result_is sought
 
-pub seek_with-listed_cause-requires-clause-sound : goal.seek_with-listed_cause-requires-clause-sound
-seek_with-listed_cause-requires-clause-sound t c = (proper c.requires.searching).sound
+pub seek_with-sound_cause-requires-clause-sound : goal.seek_with-sound_cause-requires-clause-sound
+seek_with-sound_cause-requires-clause-sound t c = (proper c.requires.searching).sound
 
-pub seek_with-listed_cause-requires-clause-base : goal.seek_with-listed_cause-requires-clause-base
-seek_with-listed_cause-requires-clause-base t c = (proper c.requires.searching).base_fits
+pub seek_with-sound_cause-requires-clause-base : goal.seek_with-sound_cause-requires-clause-base
+seek_with-sound_cause-requires-clause-base t c = (proper c.requires.searching).base_fits
 
-pub seek_with-returns-then-listed_cause-ne-NONE : goal.seek_with-returns-then-listed_cause-ne-NONE
-seek_with-returns-then-listed_cause-ne-NONE t c =
+pub seek_with-returns-then-is_err : goal.seek_with-returns-then-is_err
+seek_with-returns-then-is_err t c =
     let args = c.args in
     let h = c.requires.searching in
-    let cause = asked h args.c c.put_candidate.ensures c.listed_cause.ensures in
+    let cause = asked h args.c c.put_candidate.ensures c.event_at.ensures c.sound_cause.ensures in
     rw c.put_candidate.ensures
     (past_refused args.list.now args.p (candidate args.p args.c) (tried_whole args.p args.c) (room h) (proper h)
-    (lists (args.left - 1) (args.p + 1)) args.i (λ none. c.if-listed_cause-ne-NONE.true (cause ∙ none)))
+    (lists (args.left - 1) (args.p + 1)) args.i (λ none. is_refused _ (sym c.is_err.ensures.value ∙ c.if-is_err.true) (cause ∙ none)))
 
 pub seek_with-returns-then-i-eq0 : goal.seek_with-returns-then-i-eq0
 seek_with-returns-then-i-eq0 t c =
     let args = c.args in
     let h = c.requires.searching in
-    let cause = asked h args.c c.put_candidate.ensures c.listed_cause.ensures in
+    let cause = asked h args.c c.put_candidate.ensures c.event_at.ensures c.sound_cause.ensures in
     rw (c.if-i-eq0.true, c.if-left-eq1.true, c.put_candidate.ensures)
     (found_last args.list.now args.p (candidate args.p args.c) (tried_whole args.p args.c) (room h) (proper h)
-    (sym cause ∙ c.if-listed_cause-ne-NONE.false))
+    (sym cause ∙ is_not_refused _ (sym c.is_err.ensures.value ∙ c.if-is_err.false)))
 
 pub seek_with-returns-then-left-eq1 : goal.seek_with-returns-then-left-eq1
 seek_with-returns-then-left-eq1 t c =
     let args = c.args in
     let h = c.requires.searching in
-    let cause = asked h args.c c.put_candidate.ensures c.listed_cause.ensures in
+    let cause = asked h args.c c.put_candidate.ensures c.event_at.ensures c.sound_cause.ensures in
     rw (c.if-left-eq1.true, c.put_candidate.ensures)
     (past_last args.list.now args.p (candidate args.p args.c) (tried_whole args.p args.c) (room h) (proper h)
-    (sym cause ∙ c.if-listed_cause-ne-NONE.false) args.i c.if-i-eq0.false)
+    (sym cause ∙ is_not_refused _ (sym c.is_err.ensures.value ∙ c.if-is_err.false)) args.i c.if-i-eq0.false)
 
-pub seek_with-listed_event-requires-clause-sound : goal.seek_with-listed_event-requires-clause-sound
-seek_with-listed_event-requires-clause-sound t c = (proper c.requires.searching).sound
+pub seek_with-sound_event-requires-clause-sound : goal.seek_with-sound_event-requires-clause-sound
+seek_with-sound_event-requires-clause-sound t c = (proper c.requires.searching).sound
 
-pub seek_with-listed_event-requires-clause-stores_fit : goal.seek_with-listed_event-requires-clause-stores_fit
-seek_with-listed_event-requires-clause-stores_fit t c =
+pub seek_with-sound_event-requires-clause-stores_fit : goal.seek_with-sound_event-requires-clause-stores_fit
+seek_with-sound_event-requires-clause-stores_fit t c =
     let fits = proper c.requires.searching in
     record { base_fits = fits.base_fits; shadow_fits = fits.shadow_fits }
 
-pub seek_with-seek-sought-requires : goal.seek_with-seek-sought-requires
-seek_with-seek-sought-requires t c =
+pub seek_with-seek-requires : goal.seek_with-seek-requires
+seek_with-seek-requires t c =
     let args = c.args in
     let h = c.requires.searching in
     let more : 1 ≤ args.left - 1 = omega arith in
     let put = c.put_candidate.ensures in
     let searching =
     searching_next h (candidate args.p args.c) (tried_whole args.p args.c) (room h) more put
-    (stepped h args.c put c.listed_event.ensures)
+    (stepped h args.c put c.event_at-2.ensures c.sound_event.ensures)
     in
     (omega arith, (searching, omega arith))
 
 pub seek_with-bring_back-requires-clause-table_long : goal.seek_with-bring_back-requires-clause-table_long
 seek_with-bring_back-requires-clause-table_long t c =
-    c.seek-sought.auto.table ∙ c.listed_event.auto.table ∙ (proper c.requires.searching).sound.long
+    c.seek.auto.table ∙ c.sound_event.auto.table ∙ (proper c.requires.searching).sound.long
 
 pub seek_with-bring_back-requires-clause-stores_fit : goal.seek_with-bring_back-requires-clause-stores_fit
 seek_with-bring_back-requires-clause-stores_fit t c =
     let fits = proper c.requires.searching in
     record {
-      base_fits = c.seek-sought.auto.base ∙ c.listed_event.auto.base ∙ fits.base_fits;
-      shadow_fits = c.seek-sought.auto.shadow ∙ c.listed_event.auto.shadow ∙ fits.shadow_fits;
+      base_fits = c.seek.auto.base ∙ c.sound_event.auto.base ∙ fits.base_fits;
+      shadow_fits = c.seek.auto.shadow ∙ c.sound_event.auto.shadow ∙ fits.shadow_fits;
     }
 
-pub seek_with-returns-in-Found : goal.seek_with-returns-in-Found
-seek_with-returns-in-Found t c =
+pub seek_with-returns-in-Ok : goal.seek_with-returns-in-Ok
+seek_with-returns-in-Ok t c =
     let args = c.args in
     let h = c.requires.searching in
     let put = c.put_candidate.ensures in
-    let none = sym (asked h args.c put c.listed_cause.ensures) ∙ c.if-listed_cause-ne-NONE.false in
+    let none = sym (asked h args.c put c.event_at.ensures c.sound_cause.ensures) ∙ is_not_refused _ (sym c.is_err.ensures.value ∙ c.if-is_err.false) in
     let more : 1 ≤ args.left - 1 = omega arith in
-    let last = c.seek-sought.new in
+    let last = c.seek.new in
     found_behind args.list.now args.p (candidate args.p args.c) (tried_whole args.p args.c) (room h) (proper h) none args.left
     more
-    (sought_behind h args.c put args.i (ledger_of last.table last.base last.shadow) last.list Found more
-    (stepped h args.c put c.listed_event.ensures) c.in-Found.is c.seek-sought.ensures)
+    (sought_behind h args.c put args.i (ledger_of last.table last.base last.shadow) last.list (Ok c.in-Ok.field-0) more
+    (stepped h args.c put c.event_at-2.ensures c.sound_event.ensures) c.in-Ok.is c.seek.ensures)
 
-pub seek_with-returns-in-Past : goal.seek_with-returns-in-Past
-seek_with-returns-in-Past t c =
+pub seek_with-returns-in-Err : goal.seek_with-returns-in-Err
+seek_with-returns-in-Err t c =
     let args = c.args in
     let h = c.requires.searching in
     let put = c.put_candidate.ensures in
-    let none = sym (asked h args.c put c.listed_cause.ensures) ∙ c.if-listed_cause-ne-NONE.false in
+    let none = sym (asked h args.c put c.event_at.ensures c.sound_cause.ensures) ∙ is_not_refused _ (sym c.is_err.ensures.value ∙ c.if-is_err.false) in
     let more : 1 ≤ args.left - 1 = omega arith in
     let whole = tried_whole args.p args.c in
-    let last = c.seek-sought.new in
+    let last = c.seek.new in
     let past =
-    sought_behind h args.c put args.i (ledger_of last.table last.base last.shadow) last.list (Past c.in-Past.j) more
-    (stepped h args.c put c.listed_event.ensures) c.in-Past.is c.seek-sought.ensures
+    sought_behind h args.c put args.i (ledger_of last.table last.base last.shadow) last.list (Err c.in-Err.past) more
+    (stepped h args.c put c.event_at-2.ensures c.sound_event.ensures) c.in-Err.is c.seek.ensures
     in
     let kept = kept_behind args.list.now args.p (candidate args.p args.c) whole (room h) (proper h) none args.left past in
     past_behind args.list.now args.p (candidate args.p args.c) whole (room h) (proper h) none args.left past

@@ -1,23 +1,21 @@
--- `has_no_pending` meets its contract: whether the words of all charge accounts are 0 is whether those before `k`, the account
--- at the loop's head, joined and all from `k` on are. Assumes nothing.
-use native.Mathlib.Omega.{arith}
-use mathlib.Core.Path.{sym, ◌∙◌}
-use Rattle.rules.specs.Card.{first_charge, charge_accounts}
-use Rattle.rows.proofs.JoinedWords.{none_all, none_next, none_done}
+-- `has_no_pending` meets its contract: the words joined so far and those of the accounts from `k` on are 0 as all of them are.
+-- Assumes nothing.
+use Rattle.std.proofs.Common.{rules, ◌≡◌, ◌≤◌, bit_or, refl, sym, ◌∙◌, arith}
+use Rattle.rules.specs.Range.{all}
+use Rattle.rules.specs.Card.{account_count, first_charge, charge_accounts}
+use Rattle.rules.specs.Table.{pending_word}
+use Rattle.rules.proofs.Laws.RangeTests.{fold_of_range}
+use Rattle.rows.proofs.JoinedWords.{is_none, none_from, none_all, none_next, none_done}
 use Rattle.soundness.proofs.pending.has_no_pending.Goals as goal
 
-pub loop-k-init : goal.loop-k-init
-unfolding charge_accounts
-loop-k-init c = (omega arith, none_all _ first_charge)
-
-pub loop-k-preserved : goal.loop-k-preserved
-loop-k-preserved c =
-    let loop = c.loop-k in (
-      omega arith,
-      loop.invariant.1
-          ∙ none_next _ loop.k loop.joined c.loop-k-test.true
-          ∙ rw c.pending-joined.ensures,
-    )
-
 pub returns : goal.returns
-returns c = sym (c.loop-k.invariant.1 ∙ none_done _ _ _ c.loop-k-test.false)
+unfolding charge_accounts
+returns c =
+    let word = pending_word c.args.table.now c.args.n in
+    let joined_all =
+    fold_of_range (λ k joined. (first_charge ≤ k) × (all (is_none word) charge_accounts ≡ none_from word k joined))
+    c.fold.ensures.ran (omega arith) (omega arith, none_all word first_charge)
+    (λ k a b q inside holds called.
+    let joined : b ≡ bit_or a (word k) = search rules in
+    (search rules, (omega arith, holds.1 ∙ none_next word k a inside ∙ rw joined refl))) in
+    sym (joined_all.1 ∙ none_done word account_count _ (omega arith))

@@ -1,25 +1,13 @@
--- `stands_again` meets its contract: whether the number stands at a later position is whether it stands at one from `j` on, `j`
--- the position at the loop's head, and the test decides `j` itself. Assumes nothing.
-use native.Mathlib.Omega.{arith}
-use mathlib.Core.Path.{refl, sym, ◌∙◌}
-use borrow.Author.Tests.{eq-eqb, ne_eqb}
-use Rattle.rules.proofs.Laws.Ranges.{any_left_here, any_left_next, any_left_done}
+-- `stands_again` meets its contract: its range is that of the later positions. Assumes nothing.
+use Rattle.std.proofs.Common.{rules, tests, eqb, ◌∙◌}
+use Rattle.rules.specs.Action.{kind_number}
+use Rattle.rules.specs.Queue.{entry_number}
+use Rattle.rules.proofs.Laws.RangeTests.{any_of_range}
 use Rattle.soundness.proofs.queue.stands_again.Goals as goal
 
-pub loop-j-init : goal.loop-j-init
-loop-j-init c = refl
-
-pub returns-then-n-entry_number : goal.returns-then-n-entry_number
-returns-then-n-entry_number c =
-    let same = sym c.entry_number-n.ensures ∙ c.if-n-entry_number.true ∙ c.entry_number.ensures in
-    sym (c.loop-j.invariant ∙ any_left_here _ _ _ (omega arith) (eq-eqb _ _ same))
-
-pub loop-j-preserved : goal.loop-j-preserved
-loop-j-preserved c =
-    c.loop-j.invariant
-    ∙ any_left_next _ _ _ (omega arith)
-    (ne_eqb _ _
-    (λ same. c.if-n-entry_number.false (c.entry_number-n.ensures ∙ same ∙ sym c.entry_number.ensures)))
-
 pub returns : goal.returns
-returns c = sym (c.loop-j.invariant ∙ any_left_done _ _ _ (omega arith))
+returns c =
+    let w = c.args.table.now in
+    let h = kind_number c.args.h in
+    any_of_range (λ j. eqb (entry_number w h c.args.i) (entry_number w h j)) c.any.ensures.ran (λ j b q called. search (rules, tests))
+    ∙ rw c.queue_length-tail.ensures

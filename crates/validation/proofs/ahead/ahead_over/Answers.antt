@@ -1,26 +1,18 @@
--- `ahead_over` meets its contract: what is found over all accounts is what is found over those from `k` on, `k` the account at the
--- loop's head, and the test decides `k` itself. Assumes nothing.
-use native.Mathlib.Omega.{arith}
-use mathlib.Core.Path.{refl, sym, ◌∙◌}
+-- `ahead_over` meets its contract: its range is that of the accounts. Assumes nothing.
+use Rattle.std.proofs.Common.{rules, tests, sym, ◌∙◌}
 use Rattle.rules.specs.Card.{accounts}
-use Rattle.validation.proofs.AheadSearch.{over_here, over_next, over_done}
+use Rattle.rules.proofs.Laws.RangeTests.{find_of_range}
+use Rattle.validation.proofs.AheadSearch.{over_found}
 use Rattle.validation.proofs.ahead.ahead_over.Goals as goal
 
-pub loop-k-init : goal.loop-k-init
-unfolding accounts
-loop-k-init c = (omega arith, refl)
-
-pub returns-then-is_read_ahead : goal.returns-then-is_read_ahead
-returns-then-is_read_ahead c =
-    sym (c.loop-k.invariant.1
-    ∙ over_here _ _ _ _ c.loop-k-test.true (sym c.is_read_ahead.ensures ∙ c.if-is_read_ahead.true))
-
-pub loop-k-preserved : goal.loop-k-preserved
-loop-k-preserved c = (
-  omega arith,
-  c.loop-k.invariant.1
-      ∙ over_next _ _ _ _ c.loop-k-test.true (sym c.is_read_ahead.ensures ∙ c.if-is_read_ahead.false),
-)
-
 pub returns : goal.returns
-returns c = sym (c.loop-k.invariant.1 ∙ over_done _ _ _ _ c.loop-k-test.false)
+unfolding accounts
+returns c =
+    let found = find_of_range _ _ c.find.ensures.ran (λ k b q called. search (rules, tests)) in
+    sym (over_found _ _ _ _ found c.in_ok-k.was)
+
+pub returns-in_err-k : goal.returns-in_err-k
+unfolding accounts
+returns-in_err-k c =
+    let found = find_of_range _ _ c.find.ensures.ran (λ k b q called. search (rules, tests)) in
+    c.from_residual.ensures ∙ sym (over_found _ _ _ _ found c.in_err-k.was)

@@ -1,2 +1,0 @@
--- What a look is at, and what it gives then.
-mod Sights

@@ -1,0 +1,2 @@
+-- The number that a start gives, if there is one.
+pub mod Number

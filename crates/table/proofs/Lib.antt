@@ -1,0 +1,2 @@
+-- What is proved of opening a table.
+pub mod Opens
