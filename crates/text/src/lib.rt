@@ -28,7 +28,7 @@ impl<'a> Text<'a> {
     pub fn length(&self) -> usize
         ensures { result ≡ bytes_put self.now }
     {
-        self.at
+        self.at // where the next piece goes
     }
 
     pub fn put_text(&mut self, text: &[u8])
@@ -63,7 +63,8 @@ impl<'a> Text<'a> {
         ensures { Writes self.old self.new (signed (amount_of word)) }
     {
         let number = word.cast_signed();
-        if number < 0 {
+        let is_negative = number < 0;
+        if is_negative {
             self.put_byte(b'-');
         }
         self.put_number(number.unsigned_abs());
