@@ -1,4 +1,5 @@
 -- Events written into a list, where the search stands, places among the lists, and the call.
+mod Asked
 mod BroughtBack
 mod Places
 mod Standing

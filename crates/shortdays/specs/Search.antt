@@ -1,8 +1,9 @@
 -- RULES 15.3: the search for the list at a place: where it stands, and what it gives back. Assumes nothing.
-use Rattle.std.specs.Prelude.{ℕ, ◌+◌, ◌-◌, ◌*◌, ◌≤◌, ◌<◌, ◌≡◌, true, List, [], ◌++◌, eqb, length, take, get_or, Result, Ok, Err}
+use Rattle.std.specs.Prelude.{ℕ, ◌+◌, ◌-◌, ◌*◌, ◌≤◌, ◌<◌, ◌≡◌, Bool, true, not, List, [], ◌++◌, eqb, length, take, get_or, Result, Ok, Err}
 use Rattle.rules.specs.Range.{all}
 use Rattle.rules.specs.Card.{card_length}
 use Rattle.rules.specs.Event.{Event}
+use Rattle.rules.specs.Cause.{later_cause}
 use Rattle.rules.specs.Ledger.{Ledger}
 use Rattle.rules.specs.Encoding.{event_length, bytes_of_events}
 use Rattle.rules.specs.Run.{run}
@@ -40,6 +41,10 @@ pub record IsPast (days : List (List Event)) (i j p : ℕ) (s t : Ledger) (list 
   pub beyond : i ≡ length days + j
   pub kept : take (event_length * p) after ≡ take (event_length * p) list
   pub back : t ≡ s
+
+-- an event has a cause, on a sound table over stores that fit
+abbrev pub has_cause : List ℕ → List ℕ → Event → Bool
+has_cause w base e = not (eqb (later_cause w base e) 0)
 
 -- what the search answers: nothing where it found the list, else how far the place is past the last
 abbrev pub Sought : Type 0

@@ -1,18 +1,31 @@
 // The search for the list at a place, through the candidates as the definition of all lists goes through them.
-ghost use Rattle.std.specs.Prelude.{◌+◌, ◌-◌};
+ghost use Rattle.std.specs.Prelude.{◌≡◌, ◌+◌, ◌-◌};
+ghost use Rattle.rules.specs.Asked.{event_in};
+ghost use Rattle.rules.specs.Card.{IsBase};
 ghost use Rattle.rules.specs.Ledger.{ledger_of};
 ghost use Rattle.rules.specs.Rule.{rule_number};
+ghost use Rattle.rules.specs.Sound.{Sound};
 ghost use Rattle.enumeration.specs.Lists.{candidate_count, candidate, beginning, beginning_from, lists};
 ghost use Rattle.shortdays.specs.Written.{IsCandidate, IsNextCandidate};
-ghost use Rattle.shortdays.specs.Search.{Searching, IsSought};
+ghost use Rattle.shortdays.specs.Search.{Searching, IsSought, has_cause};
 
 use crate::back::bring_back;
 use crate::candidate::{CANDIDATES, put_candidate};
 use dispatch::cause::sound_cause;
 use dispatch::event::sound_event;
 use dispatch::listed::event_at;
-use rules::event::EVENT_LENGTH;
+use rules::event::{EVENT_LENGTH, Event};
 use rules::rule::Rule;
+
+// An event has a cause, on a sound table over stores that fit, as it is asked of.
+#[tactic(auto, using(crate::proofs::Asked::told_by_number))]
+fn is_refused(table: &[u64], base: &[u8], event: Event<'_>) -> bool
+    requires sound { Sound table.now }
+    requires base { IsBase base.now }
+    ensures { result ≡ has_cause table.now base.now (event_in event.entry) }
+{
+    sound_cause(table, base, event).is_err()
+}
 
 // Place i among the lists that begin with candidate c, behind p events and with so many left. Found, the list is written; an error
 // is how far the place is past the last list.
@@ -39,7 +52,7 @@ fn seek_with(
 {
     put_candidate(list, p, c);
     let at = EVENT_LENGTH * p;
-    if sound_cause(table, base, event_at(list, at)).is_err() {
+    if is_refused(table, base, event_at(list, at)) {
         return Err(i);
     }
     if left == 1 {

@@ -2,14 +2,15 @@
 use Prim.Native.Nat.{ℕ, ◌+◌, ◌-◌, ◌*◌, ◌≤◌}
 use native.Mathlib.Omega.{arith}
 use mathlib.Core.Path.{◌≡◌, sym, ap, ◌∙◌}
-use mathlib.Core.Bool.{cond}
+use mathlib.Core.Bool.{Bool, true, false, not, cond, true≢false}
+use mathlib.Core.Logic.{◌≢◌}
+use Rattle.std.proofs.lemmas.Bool.{eqb-true, eq-eqb, not-false}
 use mathlib.Core.List.{List}
 use lib.Dec.{eqb}
 use lib.ListN.{length, length-replicate}
 use Rattle.std.specs.Prelude.{Ok, Err}
 use Rattle.rules.specs.Card.{card_length}
 use Rattle.rules.specs.Event.{Event, write_code}
-use Rattle.rules.proofs.Laws.Refusals.{is_refused, is_not_refused}
 use Rattle.rules.specs.Ledger.{Ledger, ledger_of}
 use Rattle.rules.specs.Encoding.{event_length, event_at}
 use Rattle.rules.specs.Cause.{later_cause}
@@ -51,6 +52,13 @@ seek-returns-in-Err t c =
 
 -- ---- `seek_with`
 
+-- the answer of `is_refused`, as a fact of the cause
+caused : {n : ℕ} {refused : Bool} → refused ≡ not (eqb n 0) → refused ≡ true → n ≢ 0
+caused {n = n} is given none = true≢false (sym given ∙ is ∙ ap not (eq-eqb n 0 none))
+
+uncaused : {n : ℕ} {refused : Bool} → refused ≡ not (eqb n 0) → refused ≡ false → n ≡ 0
+uncaused {n = n} is given = eqb-true n 0 (not-false (eqb n 0) (sym is ∙ given))
+
 tried_whole : (p c : ℕ) → IsWhole (candidate p c)
 tried_whole p c = length-replicate {A = ℕ} card_length (cond (eqb (code_tried c) write_code) (p + 1) 0)
 
@@ -69,9 +77,9 @@ module _ {rule p left : ℕ} {list : List ℕ} {s : Ledger} (h : Searching rule 
         ∙ written_here list p (candidate p c) (tried_whole p c) room
 
     asked :
-        {e : Event} {cause : ℕ} → e ≡ event_at put (event_length * p) → cause ≡ later_cause s.table s.base e →
-        cause ≡ later_cause s.table s.base (candidate p c)
-    asked here is = is ∙ ap (later_cause s.table s.base) (here ∙ put_here)
+        {e : Event} → e ≡ event_at put (event_length * p) →
+        later_cause s.table s.base e ≡ later_cause s.table s.base (candidate p c)
+    asked here = ap (later_cause s.table s.base) (here ∙ put_here)
 
     -- it is taken
     stepped : {e : Event} {o : Outcome} → e ≡ event_at put (event_length * p) → o ≡ step s e → o.after ≡ (step s (candidate p c)).after
@@ -89,38 +97,38 @@ module _ {rule p left : ℕ} {list : List ℕ} {s : Ledger} (h : Searching rule 
         sought_in_all (left - 1) (p + 1) i (step s (candidate p c)).after last (with_event list p (candidate p c)) after r
         more step_is written result_is sought
 
-pub seek_with-sound_cause-requires-clause-sound : goal.seek_with-sound_cause-requires-clause-sound
-seek_with-sound_cause-requires-clause-sound t c = (proper c.requires.searching).sound
+pub seek_with-is_refused-requires-clause-sound : goal.seek_with-is_refused-requires-clause-sound
+seek_with-is_refused-requires-clause-sound t c = (proper c.requires.searching).sound
 
-pub seek_with-sound_cause-requires-clause-base : goal.seek_with-sound_cause-requires-clause-base
-seek_with-sound_cause-requires-clause-base t c = (proper c.requires.searching).base_fits
+pub seek_with-is_refused-requires-clause-base : goal.seek_with-is_refused-requires-clause-base
+seek_with-is_refused-requires-clause-base t c = (proper c.requires.searching).base_fits
 
-pub seek_with-returns-then-is_err : goal.seek_with-returns-then-is_err
-seek_with-returns-then-is_err t c =
+pub seek_with-returns-then-is_refused : goal.seek_with-returns-then-is_refused
+seek_with-returns-then-is_refused t c =
     let args = c.args in
     let h = c.requires.searching in
-    let cause = asked h args.c c.put_candidate.ensures c.event_at.ensures c.sound_cause.ensures in
+    let cause = asked h args.c c.put_candidate.ensures c.event_at.ensures in
     rw c.put_candidate.ensures
     (past_refused args.list.now args.p (candidate args.p args.c) (tried_whole args.p args.c) (room h) (proper h)
-    (lists (args.left - 1) (args.p + 1)) args.i (λ none. is_refused _ (sym c.is_err.ensures.value ∙ c.if-is_err.true) (cause ∙ none)))
+    (lists (args.left - 1) (args.p + 1)) args.i (λ none. caused c.is_refused.ensures c.if-is_refused.true (cause ∙ none)))
 
 pub seek_with-returns-then-i-eq0 : goal.seek_with-returns-then-i-eq0
 seek_with-returns-then-i-eq0 t c =
     let args = c.args in
     let h = c.requires.searching in
-    let cause = asked h args.c c.put_candidate.ensures c.event_at.ensures c.sound_cause.ensures in
+    let cause = asked h args.c c.put_candidate.ensures c.event_at.ensures in
     rw (c.if-i-eq0.true, c.if-left-eq1.true, c.put_candidate.ensures)
     (found_last args.list.now args.p (candidate args.p args.c) (tried_whole args.p args.c) (room h) (proper h)
-    (sym cause ∙ is_not_refused _ (sym c.is_err.ensures.value ∙ c.if-is_err.false)))
+    (sym cause ∙ uncaused c.is_refused.ensures c.if-is_refused.false))
 
 pub seek_with-returns-then-left-eq1 : goal.seek_with-returns-then-left-eq1
 seek_with-returns-then-left-eq1 t c =
     let args = c.args in
     let h = c.requires.searching in
-    let cause = asked h args.c c.put_candidate.ensures c.event_at.ensures c.sound_cause.ensures in
+    let cause = asked h args.c c.put_candidate.ensures c.event_at.ensures in
     rw (c.if-left-eq1.true, c.put_candidate.ensures)
     (past_last args.list.now args.p (candidate args.p args.c) (tried_whole args.p args.c) (room h) (proper h)
-    (sym cause ∙ is_not_refused _ (sym c.is_err.ensures.value ∙ c.if-is_err.false)) args.i c.if-i-eq0.false)
+    (sym cause ∙ uncaused c.is_refused.ensures c.if-is_refused.false) args.i c.if-i-eq0.false)
 
 pub seek_with-sound_event-requires-clause-sound : goal.seek_with-sound_event-requires-clause-sound
 seek_with-sound_event-requires-clause-sound t c = (proper c.requires.searching).sound
@@ -159,7 +167,7 @@ seek_with-returns-in-Ok t c =
     let args = c.args in
     let h = c.requires.searching in
     let put = c.put_candidate.ensures in
-    let none = sym (asked h args.c put c.event_at.ensures c.sound_cause.ensures) ∙ is_not_refused _ (sym c.is_err.ensures.value ∙ c.if-is_err.false) in
+    let none = sym (asked h args.c put c.event_at.ensures) ∙ uncaused c.is_refused.ensures c.if-is_refused.false in
     let more : 1 ≤ args.left - 1 = omega arith in
     let last = c.seek.new in
     found_behind args.list.now args.p (candidate args.p args.c) (tried_whole args.p args.c) (room h) (proper h) none args.left
@@ -172,7 +180,7 @@ seek_with-returns-in-Err t c =
     let args = c.args in
     let h = c.requires.searching in
     let put = c.put_candidate.ensures in
-    let none = sym (asked h args.c put c.event_at.ensures c.sound_cause.ensures) ∙ is_not_refused _ (sym c.is_err.ensures.value ∙ c.if-is_err.false) in
+    let none = sym (asked h args.c put c.event_at.ensures) ∙ uncaused c.is_refused.ensures c.if-is_refused.false in
     let more : 1 ≤ args.left - 1 = omega arith in
     let whole = tried_whole args.p args.c in
     let last = c.seek.new in
