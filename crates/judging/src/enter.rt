@@ -17,5 +17,5 @@ pub fn enter(table: &mut [u64], n: u64)
 {
     let h = kind_of(table, n);
     let settled = verdict(table, h, n);
-    put_tail(table, h, n, settled);
+    put_tail(table, h, n, u64::from(settled));
 }

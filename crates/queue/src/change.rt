@@ -1,7 +1,6 @@
 // The changes of a queue: an action put at the tail, marked as ready, and taken out.
 ghost use Rattle.std.specs.Prelude.{◌≡◌};
 ghost use Rattle.rules.specs.Action.{kind_number};
-ghost use Rattle.rules.specs.Settled.{verdict_word};
 ghost use Rattle.rules.specs.Queue.{entry_at, with_entry, with_tail, with_ready, without_below};
 ghost use Rattle.rows.specs.Row.{HasRow};
 ghost use Rattle.ancestry.specs.Ancestry.{LiveClimb};
@@ -13,16 +12,16 @@ use rows::entries::{
     entry_number, entry_readiness, entry_verdict, put_entry, queue_length, set_queue_length,
 };
 use rules::action::Kind;
-use rules::queue::{FIRST_POSITION, READY, UNREADY, Verdict};
+use rules::queue::{FIRST_POSITION, READY, UNREADY};
 
-// n at the tail, with the verdict that is settled, not ready.
-pub fn put_tail(table: &mut [u64], h: Kind, n: u64, verdict: Verdict)
+// n at the tail, with the verdict that is settled, not ready. The verdict is a word here: an entry may hold any.
+pub fn put_tail(table: &mut [u64], h: Kind, n: u64, verdict: u64)
     requires has_line { HasLine table.old (kind_number h) }
     requires has_room { HasRoom table.old (kind_number h) }
-    ensures { table.new ≡ with_tail table.old (kind_number h) n (verdict_word verdict) }
+    ensures { table.new ≡ with_tail table.old (kind_number h) n verdict }
 {
     let tail = queue_length(table, h) + 1;
-    put_entry(table, h, tail, n, u64::from(verdict), UNREADY);
+    put_entry(table, h, tail, n, verdict, UNREADY);
     set_queue_length(table, h, tail);
 }
 

@@ -5,5 +5,5 @@ use Rattle.queue.proofs.change.put_tail.Goals as goal
 
 pub returns : goal.returns
 returns c =
-    rw (c.set_queue_length.ensures, c.put_entry.ensures, c.queue_length-tail.ensures, c.from.ensures)
+    rw (c.set_queue_length.ensures, c.put_entry.ensures, c.queue_length-tail.ensures)
     (sym (tail_put _ _ _ _))
