@@ -18,7 +18,11 @@ fn store_answer(buffer: &mut [u64], at: usize, answer: Answer)
     requires { AnswerFits buffer.old at }
     ensures { buffer.new ≡ with_words buffer.old at (words_of answer) }
 {
-    buffer[at..at + ANSWER_LENGTH].copy_from_slice(&words(answer));
+    let [kind, first, second, third] = words(answer);
+    buffer[at] = kind;
+    buffer[at + 1] = first;
+    buffer[at + 2] = second;
+    buffer[at + 3] = third;
 }
 
 // Ok, or why the list isn't run.
