@@ -79,8 +79,12 @@ ready_kind = 10
 abbrev pub judged_failed_kind : ℕ
 judged_failed_kind = 11
 
+-- RULES 5: the words of a refused event, by the number of its cause, and those of any answer
+abbrev pub refused_words : ℕ → List ℕ
+refused_words number = refused_kind ∷ number ∷ 0 ∷ 0 ∷ []
+
 abbrev pub words_of : Answer → List ℕ
-words_of (Refused refusal) = refused_kind ∷ refusal_number refusal ∷ 0 ∷ 0 ∷ []
+words_of (Refused refusal) = refused_words (refusal_number refusal)
 words_of (Started n) = started_kind ∷ n ∷ 0 ∷ 0 ∷ []
 words_of (Read holder moves) = read_kind ∷ holder ∷ moves ∷ 0 ∷ []
 words_of Written = written_kind ∷ 0 ∷ 0 ∷ 0 ∷ []
