@@ -1,6 +1,6 @@
 // What the rules say in types and numbers: answers, versions, what is found against a commit, and every size, place and code by
 // name.
-// The definitions of specs/ are the rules themselves; nothing here computes.
+// The definitions of specs/ are the rules themselves; all that is computed here is a type's number, and the type from a number.
 #![tactic(auto)]
 
 use crate::refusal::Refusal;

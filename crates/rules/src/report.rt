@@ -22,6 +22,9 @@ pub const FIGURES: usize = 2;
 
 pub const TOTAL_AT: usize = 1;
 
+// All figures of a line.
+pub const LINE_FIGURES: usize = 16;
+
 pub const LINE_LENGTH: usize = 19;
 
 // The last block, and its lines: account, opening, sum, closing.
@@ -32,6 +35,8 @@ pub const OPENING_AT: usize = 1;
 pub const SUM_AT: usize = 2;
 
 pub const CLOSING_AT: usize = 3;
+
+pub const BALANCE_FIGURES: usize = 3;
 
 pub const BALANCE_LENGTH: usize = 4;
 
