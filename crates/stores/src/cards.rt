@@ -27,8 +27,9 @@ pub fn copy_card(store: &mut [u8], to: usize, source: &[u8], from: usize)
     requires card_fits_2 { CardFits source.now from }
     ensures { store.new ≡ with_card store.old to (card_at source.now from) }
 {
-    let end = from + CARD_LENGTH;
-    put_card(store, to, &source[from..end]);
+    let end = to + CARD_LENGTH;
+    let source_end = from + CARD_LENGTH;
+    store[to..end].copy_from_slice(&source[from..source_end]);
 }
 
 // A card of a store put at another place of it.

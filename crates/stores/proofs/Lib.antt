@@ -1,0 +1,2 @@
+-- Facts that the proofs of copies use.
+pub mod CopiedCard
