@@ -153,9 +153,11 @@ impl<const KIND: u64> TimeOf<KIND> {
         requires account { IsAccount k }
         ensures { result.0 ≡ later_read table.now KIND n k self.entry.0 }
     {
-        if !has_read(table, n, k) {
-            return self;
-        }
-        self.max(Self::read(table, n, k))
+        let read = if has_read(table, n, k) {
+            Self::read(table, n, k)
+        } else {
+            Self::no_end()
+        };
+        self.max(read)
     }
 }
